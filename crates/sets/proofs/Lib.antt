@@ -1,0 +1,4 @@
+pub mod Membership
+pub mod Members
+pub mod Counting
+pub mod Ranges

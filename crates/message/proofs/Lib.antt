@@ -1,0 +1,3 @@
+pub mod EachKind
+pub mod Named
+pub mod RoundTrips

@@ -17,7 +17,7 @@ use Rattle.bigendian.proofs.Places.{bytesAt-all, bytes-number}
 use Rattle.bigendian.specs.BigEndian.{bytesAt}
 use Rattle.message.specs.declared.Message.{Message}
 use Rattle.message.specs.Fields.{details, fieldNumber}
-use Rattle.message.specs.Record.{decoded, encoded, headBytes, accepted, readRecord, written}
+use Rattle.message.specs.Record.{decoded, encoded, headBytes, emptyMessage, ReadAnswer, accepted, refused, readRecord, written}
 
 -- each field of several bytes is a number of its machine type
 pub record Typed (m : Message) : Type 0 where
@@ -86,6 +86,15 @@ read-kept s k = rw (eq-eqb (length s) 32 (k .whole), eq-eqb (fieldNumber (decode
 pub written-kept : (m : Message) → fieldNumber m ≡ 0 → (buffer : List ℕ) → length buffer ≡ 32 → written m buffer ≡ record { code = 0; bytes = encoded m }
 unfolding written
 written-kept m rules buffer room = rw (eq-eqb (length buffer) 32 room, eq-eqb (fieldNumber m) 0 rules)
+
+-- a refused reading has a number that is not 0
+pub refused-by : (s : List ℕ) (number : ℕ) → refused number ≡ readRecord s → number ≡ 0 → ⊥
+unfolding fieldNumber
+refused-by s number e zero =
+    let k = kept s (sym (ap (λ (a : ReadAnswer). a .code) e) ∙ zero) in
+    let none : decoded s ≡ emptyMessage = sym (ap (λ (a : ReadAnswer). a .message) (e ∙ read-kept s k)) in
+    let eleven : _≡_ {A = ℕ} 11 0 = sym (ap fieldNumber none) ∙ k .rules in
+    omega arith
 
 -- an accepted record, read and written again, gives the same 32 bytes
 pub read-then-written : (s : List ℕ) → Bytes s → readRecord s .code ≡ 0 → (buffer : List ℕ) → length buffer ≡ 32 → written (readRecord s .message) buffer ≡ record { code = 0; bytes = s }

@@ -96,6 +96,16 @@ pub fn read_record(s: &[u8]) -> Reading
     Reading::Accepted(m)
 }
 
+// The number of a reading: 0 if it was accepted, else the one that refuses it.
+pub fn reading_code(reading: Reading) -> u8
+    ensures { λ r. ⌜ r ≡ readingOf reading .code ⌝ }
+{
+    match reading {
+        Reading::Accepted(_) => 0,
+        Reading::Refused(code) => code,
+    }
+}
+
 // Writes a message as a record into the buffer. Refused by 10 for a buffer that is not 32 bytes, then by 13 for a message that
 // no record carries; the buffer then stays as it was.
 pub fn write_record(m: Message, s: &mut [u8]) -> u8

@@ -1,16 +1,17 @@
 -- A set by its members: what the tests on whole words say of the turnouts, one by one.
-use mathlib.Core.Bool.{Bool, true, false, cond, not, _&&_, and-eq-true-iff}
+use mathlib.Core.Bool.{Bool, true, false, cond, not, _&&_, and-eq-true-iff, false≢true}
 use mathlib.Core.Logic.{_↔_}
 use mathlib.Core.Path.{_≡_, refl, sym, ap, ap₂, _∙_}
-use Prim.Native.Nat.{ℕ, zero, suc, _+_, _*_, _/_, _%_, _^_, _<_, suc-le-suc}
+use Prim.Native.Nat.{ℕ, zero, suc, _+_, _-_, _*_, _/_, _%_, _^_, _<_, suc-le-suc}
 use native.Mathlib.Nat.{zero-lt-suc, div-one, div-add-mod', lt-of-le-of-lt}
 use native.Mathlib.Omega.{arith}
-use borrow.Author.Tests.{eqb-true, eqb-false, eq-eqb, ne-eqb, not-true, not-false}
+use borrow.Author.Tests.{eqb-true, eqb-false, eq-eqb, ne-eqb, not-true, not-false, ltb-true, ltb-false}
+use lib.Dec.{ltb}
 use lib.Arith.{lt-one}
 use lib.Pow.{pow-pos}
-use lib.Bits.{bitAnd, and-le-l}
+use lib.Bits.{bitAnd, and-le-l, mask-lt}
 use Rattle.sets.specs.Sets.{has, isEmpty, overlaps, within}
-use Rattle.sets.proofs.Membership.{half-lt, digit-has, has-suc, has-and, has-zero}
+use Rattle.sets.proofs.Membership.{half-lt, digit-has, has-suc, has-and, has-zero, has-beyond}
 
 -- the lowest digit of s is 1 where turnout 0 is in s, and 0 where not
 digit-zero : (s : ℕ) → s % 2 ≡ cond (has s 0) 1 0
@@ -87,3 +88,14 @@ overlap-member a b h e =
     let m = some-member 64 (bitAnd a b) (both-lt a b h) (not-true (isEmpty (bitAnd a b)) e) in
     let both = and-eq-true-iff (has a (m .0)) (has b (m .0)) .0 (sym (has-and a b (m .0)) ∙ m .2) in
     (m .0, m .1, both .0, both .1)
+
+-- what lies among the numbers below k has no other member
+pub among-below : (k s n : ℕ) → within s (2 ^ k - 1) ≡ true → has s n ≡ true → n < k
+among-below k s n e m = go (ltb n k) refl
+  where
+    small : s < 2 ^ k
+    small = rw (eqb-true (bitAnd s (2 ^ k - 1)) s e) at (mask-lt s k)
+
+    go : (b : Bool) → ltb n k ≡ b → n < k
+    go true q = ltb-true n k q
+    go false q = absurd (false≢true (sym (has-beyond k s n small (ltb-false n k q)) ∙ m))

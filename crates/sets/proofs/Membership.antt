@@ -111,7 +111,11 @@ has-single k n = go (ltb k 64)
     go true = has-power k n
     go false = has-zero n
 
+-- no number from k on is in a number of k digits
+pub has-beyond : (k s n : ℕ) → s < 2 ^ k → k ≤ n → has s n ≡ false
+unfolding has
+has-beyond k s n h l = ap odd (div-eq-of-lt (lt-of-lt-of-le h (pow-mono l)))
+
 -- no number from 64 on is in a word
 pub has-past : (s n : ℕ) → s < 2 ^ 64 → 64 ≤ n → has s n ≡ false
-unfolding has
-has-past s n h l = ap odd (div-eq-of-lt (lt-of-lt-of-le h (pow-mono l)))
+has-past = has-beyond 64

@@ -1,14 +1,18 @@
--- Tests on a range of numbers, one number further: what a loop over the range needs; and what it means that all pass.
+-- Tests on a range of numbers, one number further: what a loop over the range needs; and what it means that all pass, or none.
 use mathlib.Core.Bool.{Bool, true, false, cond, _&&_, and-eq-true-iff}
-use mathlib.Core.Path.{_≡_, refl, ap, _∙_}
+use mathlib.Core.Path.{_≡_, refl, sym, ap, _∙_}
 use Prim.Native.Nat.{ℕ, zero, suc, _+_, _-_, _≤_, _<_}
-use native.Mathlib.Nat.{sub-self}
+use native.Mathlib.Nat.{sub-self, zero-add, add-zero, le-of-suc-le-suc, not-suc-le-zero}
 use native.Mathlib.Omega.{arith}
 use Rattle.sets.specs.Range.{firstFrom, allFrom}
 
 -- what is left of a range, counted by its next number
 left : (i n : ℕ) → i < n → n - i ≡ suc (n - (i + 1))
 left i n h = omega arith
+
+-- a number of a range, counted from its second number
+from-next : (i j : ℕ) → i + suc j ≡ i + 1 + j
+from-next i j = omega arith
 
 module _ (p : ℕ → Bool) where
   pub first-next : (i n : ℕ) → i < n → firstFrom p i (n - i) ≡ cond (p i) i (firstFrom p (i + 1) (n - (i + 1)))
@@ -26,3 +30,34 @@ module _ (p : ℕ → Bool) where
   pub all-end : (n : ℕ) → allFrom p n (n - n) ≡ true
   unfolding allFrom
   all-end n = ap (allFrom p n) (sub-self n)
+
+  -- where all pass, each does
+  pub all-at : (i k : ℕ) → allFrom p i k ≡ true → (j : ℕ) → j < k → p (i + j) ≡ true
+  unfolding allFrom
+  all-at i zero h j l = absurd (not-suc-le-zero l)
+  all-at i (suc k) h zero l = ap p (add-zero i) ∙ and-eq-true-iff (p i) (allFrom p (i + 1) k) .0 h .0
+  all-at i (suc k) h (suc j) l =
+      ap p (from-next i j) ∙ all-at (i + 1) k (and-eq-true-iff (p i) (allFrom p (i + 1) k) .0 h .1) j (le-of-suc-le-suc l)
+
+  -- of the numbers below k
+  pub all-below : (k : ℕ) → allFrom p 0 k ≡ true → (n : ℕ) → n < k → p n ≡ true
+  all-below k h n l = ap p (sym (zero-add n)) ∙ all-at 0 k h n l
+
+  -- where no first one is found, the next does not pass, and none is found after it
+  first-later : (i k : ℕ) → i + suc k ≤ firstFrom p i (suc k) → (p i ≡ false) × (i + 1 + k ≤ firstFrom p (i + 1) k)
+  unfolding firstFrom
+  first-later i k h = go (p i) refl h
+    where
+      go : (b : Bool) → p i ≡ b → i + suc k ≤ cond b i (firstFrom p (i + 1) k) → (p i ≡ false) × (i + 1 + k ≤ firstFrom p (i + 1) k)
+      go true e h = absurd (omega arith)
+      go false e h = (e, rw (from-next i k) at h)
+
+  -- where no first one is found, none passes
+  pub first-none : (i k : ℕ) → i + k ≤ firstFrom p i k → (j : ℕ) → j < k → p (i + j) ≡ false
+  first-none i zero h j l = absurd (not-suc-le-zero l)
+  first-none i (suc k) h zero l = ap p (add-zero i) ∙ first-later i k h .0
+  first-none i (suc k) h (suc j) l = ap p (from-next i j) ∙ first-none (i + 1) k (first-later i k h .1) j (le-of-suc-le-suc l)
+
+  -- of the numbers below k
+  pub none-below : (k : ℕ) → k ≤ firstFrom p 0 k → (n : ℕ) → n < k → p n ≡ false
+  none-below k h n l = ap p (sym (zero-add n)) ∙ first-none 0 k (rw (zero-add k) h) n l

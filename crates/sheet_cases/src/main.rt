@@ -1,0 +1,130 @@
+// Tries the reader of station sheets (document 01, 'Station sheet') on worked sheets. The reader is proved to follow the rules in the
+// station crate's specs/; what this program writes shows that these rules accept and refuse the sheets that the document does.
+// The cases are in stdin and the expected lines in stdout, written from the document; no expected number stands here.
+//
+// A line of the input that starts with # is a remark; an empty line ends the input. Any other line starts with a name and a number.
+// Number 1 to 4 names a sheet (sheets.rt: 1 station K, 2 a larger one, 3 and 4 the largest with 8 zones and with 1). Then come how
+// many bytes of it are read, and its damage, pairs of a place and the byte that is put there. The output is the name, the code
+// and the index. With 5 the sheet is station K, and the output is the name and the sum of all numbers of the station that reading
+// gives.
+// Number 10 to 18 is a question about a station: 10, 11, 12 the count of turnouts, routes, zones; 13 and 14 the zone and the drive of a
+// turnout; 15 what is tied to it; 16 the turnouts of a zone; 17 what a route names; 18 whether a set splits a crossover. Then come
+// a count, a partner and what is asked about. With count 0 the station is station K; else it is one that no sheet gave, with
+// this number for each count and this partner for each turnout. The output is the name and the answer.
+mod sheets;
+mod stations;
+mod text;
+
+// Writes a space and a number.
+fn write_number(n: u64) {
+    io::write_all(1, b" ");
+    io::print_decimal(1, n);
+}
+
+// Stores the damage at a place, if there is more; the place after it.
+fn put_pair(s: &mut [u8], input: &[u8], at: usize) -> usize {
+    if text::byte_at(input, at) != b' ' {
+        return at;
+    }
+    let place = text::number_at(input, at);
+    let value = text::number_at(input, place.next);
+    sheets::put(s, place.value as usize, (value.value % 256) as u8);
+    value.next
+}
+
+// Stores the damage from a place on, at most 16 pairs; the place after it.
+fn put_pairs(s: &mut [u8], input: &[u8], at: usize) -> usize {
+    let mut next = at;
+    let mut i: usize = 0;
+    while i < 16 {
+        next = put_pair(s, input, next);
+        i += 1;
+    }
+    next
+}
+
+// Writes what reading a sheet gives.
+fn write_reading(s: &[u8], base: u16) {
+    let r = station::read_sheet(s);
+    if base == 5 {
+        write_number(stations::sum(r.station));
+        return;
+    }
+    write_number(r.code as u64);
+    write_number(r.index as u64);
+}
+
+// Writes what reading the first n bytes gives.
+fn write_part(s: &[u8], n: usize, base: u16) {
+    if s.len() < n {
+        return;
+    }
+    write_reading(&s[..n], base);
+}
+
+// The sheet to start from.
+fn sheet_of(base: u16) -> u16 {
+    if base == 5 {
+        return 1;
+    }
+    base
+}
+
+// Tries the sheet that the line has from a place on; the place after it.
+fn sheet_tried(input: &[u8], base: u16, at: usize) -> usize {
+    let n = text::number_at(input, at);
+    let mut s = [0u8; 2312];
+    sheets::put_base(&mut s, sheet_of(base));
+    let next = put_pairs(&mut s, input, n.next);
+    write_part(&s, n.value as usize, base);
+    next
+}
+
+// Tries the question that the line has from a place on; the place after it.
+fn question_tried(input: &[u8], question: u16, at: usize) -> usize {
+    let count = text::number_at(input, at);
+    let partner = text::number_at(input, count.next);
+    let n = text::number_at(input, partner.next);
+    let st = stations::asked(count.value, partner.value);
+    write_number(stations::answer(st, question, n.value));
+    n.next
+}
+
+// Tries what stands after the name; the place after it.
+fn rest_tried(input: &[u8], at: usize) -> usize {
+    let first = text::number_at(input, at);
+    if first.value < 10 {
+        return sheet_tried(input, first.value, first.next);
+    }
+    question_tried(input, first.value, first.next)
+}
+
+// Tries the line at a place, if there is one and it is no remark; the place of the next line.
+fn line_tried(input: &[u8], at: usize) -> usize {
+    let first = text::byte_at(input, at);
+    if first == b'\n' {
+        return at;
+    }
+    if first == b'#' {
+        return text::after_line(input, at);
+    }
+    let next = rest_tried(input, text::name(input, at));
+    io::write_all(1, b"\n");
+    text::after(next)
+}
+
+// Tries every line, at most 400.
+fn all_tried(input: &[u8]) {
+    let mut at: usize = 0;
+    let mut i: usize = 0;
+    while i < 400 {
+        at = line_tried(input, at);
+        i += 1;
+    }
+}
+
+fn main() {
+    let mut input = [b'\n'; 16384];
+    io::read_full(0, &mut input);
+    all_tried(&input);
+}

@@ -1,0 +1,4 @@
+pub mod Places
+pub mod Joined
+pub mod AcceptedRoute
+pub mod Accepted

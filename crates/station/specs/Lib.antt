@@ -1,0 +1,3 @@
+pub mod Station
+pub mod Layout
+pub mod Sheet

@@ -1,0 +1,78 @@
+-- What a station says of its turnouts, routes and zones, for every station value. Document 01, 'Conditions of acceptance':
+-- "a count over its limit is read as the limit, a partner not below P as none, a stored route not below R names nothing".
+use mathlib.Core.Bool.{Bool, cond, not, _||_}
+use Prim.Native.Nat.{ℕ, min}
+use lib.Dec.{eqb, ltb}
+use lib.ListN.{getD, replicate}
+use Rattle.sets.specs.Range.{allFrom}
+use Rattle.sets.specs.Sets.{single, union, within, overlaps, setOf}
+use Rattle.station.specs.declared.Turnout.{Turnout}
+use Rattle.station.specs.declared.Route.{Route}
+use Rattle.station.specs.declared.Station.{Station}
+
+abbrev pub emptyTurnout : Turnout
+emptyTurnout = record { zone = 0; partner = 0; drive = 0 }
+
+abbrev pub emptyRoute : Route
+emptyRoute = record { zone = 0; over = 0; flank = 0; exits = 0; reverse = 0 }
+
+-- "empty station, every number 0"
+unfoldable pub emptyStation : Station
+emptyStation = record {
+  turnouts = 0;
+  routes = 0;
+  zones = 0;
+  turnout = replicate 64 emptyTurnout;
+  route = replicate 64 emptyRoute;
+}
+
+-- the stored records; past the last place every number is 0
+abbrev pub turnoutAt : Station → ℕ → Turnout
+turnoutAt st n = getD (st .turnout) n emptyTurnout
+
+abbrev pub routeAt : Station → ℕ → Route
+routeAt st n = getD (st .route) n emptyRoute
+
+-- P, R and Z: "a count over its limit is read as the limit"
+abbrev pub turnoutCount : Station → ℕ
+turnoutCount st = min (st .turnouts) 64
+
+abbrev pub routeCount : Station → ℕ
+routeCount st = min (st .routes) 64
+
+abbrev pub zoneCount : Station → ℕ
+zoneCount st = min (st .zones) 8
+
+abbrev pub zoneOf : Station → ℕ → ℕ
+zoneOf st n = turnoutAt st n .zone
+
+abbrev pub driveOf : Station → ℕ → ℕ
+driveOf st n = turnoutAt st n .drive
+
+-- the turnouts tied to turnout n: itself and its partner, "a partner not below P as none"
+unfoldable pub tiedWith : ℕ → ℕ → ℕ → ℕ
+tiedWith p n partner = union (single n) (cond (ltb partner p) (single partner) 0)
+
+unfoldable pub tied : Station → ℕ → ℕ
+unfolding tiedWith
+tied st n = tiedWith (turnoutCount st) n (turnoutAt st n .partner)
+
+-- the turnouts of a zone
+unfoldable pub zoneTurnouts : Station → ℕ → ℕ
+zoneTurnouts st z = setOf (λ n. eqb (zoneOf st n) z) (turnoutCount st)
+
+-- "their union is what the route names"
+abbrev pub namedBy : Route → ℕ
+namedBy r = union (union (r .over) (r .flank)) (r .exits)
+
+-- route n as it counts: "a stored route not below R names nothing"
+unfoldable pub theRoute : Station → ℕ → Route
+theRoute st n = cond (ltb n (routeCount st)) (routeAt st n) emptyRoute
+
+-- a set takes all of a group of tied turnouts, or none
+abbrev pub whole : ℕ → ℕ → Bool
+whole group s = within group s || not (overlaps group s)
+
+-- "splitting a crossover": one end is in the set and the other is not
+unfoldable pub splits : Station → ℕ → Bool
+splits st s = not (allFrom (λ n. whole (tied st n) s) 0 (turnoutCount st))

@@ -1,0 +1,201 @@
+// Stations and their sheets (document 01, 'Station sheet'): the reader of a sheet, and what a station says of its turnouts,
+// routes and zones. The rules are in specs/: Layout.antt has the bytes, Sheet.antt judging and reading, Station.antt what the
+// desk asks of a station. Every function takes any station value, also one that no sheet gave.
+ghost use mathlib.Core.Path.{_≡_};
+ghost use mathlib.Core.Bool.{cond};
+ghost use Rattle.station.specs.Sheet.{readSheet};
+ghost use Rattle.station.specs.Station.{
+  emptyRoute,
+  turnoutCount,
+  routeCount,
+  zoneCount,
+  zoneOf,
+  driveOf,
+  tied,
+  zoneTurnouts,
+  theRoute,
+  namedBy,
+  splits,
+};
+
+mod judge;
+mod layout;
+mod observe;
+
+// The limits of a station.
+pub const TURNOUTS: usize = 64;
+
+pub const ROUTES: usize = 64;
+
+pub const ZONES: usize = 8;
+
+// The numbers that refuse a sheet.
+pub const BAD_LENGTH: u8 = 1;
+
+pub const BAD_MARK: u8 = 2;
+
+pub const BAD_VERSION: u8 = 3;
+
+pub const BAD_COUNTS: u8 = 4;
+
+pub const BAD_TURNOUT: u8 = 5;
+
+pub const BAD_ROUTE: u8 = 6;
+
+// A turnout: its zone, the other end of its crossover (255 for none), its drive (0 electric, 1 hand with key lock).
+pub struct Turnout {
+    pub zone: u8,
+    pub partner: u8,
+    pub drive: u8,
+}
+
+// A route: its zone, the sets that it runs over, of its flank and of its exit zone, and those that lie reverse.
+pub struct Route {
+    pub zone: u8,
+    pub over: u64,
+    pub flank: u64,
+    pub exits: u64,
+    pub reverse: u64,
+}
+
+// A station: the counts P, R and Z, and the records; those past P and R are 0.
+pub struct Station {
+    pub turnouts: u8,
+    pub routes: u8,
+    pub zones: u8,
+    pub turnout: [Turnout; 64],
+    pub route: [Route; 64],
+}
+
+// What reading a sheet gives: 0 and the station; or the number that refuses it, the index of the record for 5 and 6 (else
+// 0), and the station that is 0 throughout.
+pub struct Sheet {
+    pub code: u8,
+    pub index: u8,
+    pub station: Station,
+}
+
+// Reads a sheet.
+pub fn read_sheet(s: &[u8]) -> Sheet
+    ensures { λ r. ⌜ r ≡ readSheet (now (s .entry)) ⌝ }
+{
+    let code = layout::header_code(s);
+    if code != 0 {
+        return judge::refused(code, 0);
+    }
+    judge::judge(layout::station_in(s))
+}
+
+// How many turnouts, at most 64.
+pub fn turnout_count(st: Station) -> usize
+    ensures { λ r. ⌜ r ≡ turnoutCount st ⌝ }
+{
+    observe::at_most_64(st.turnouts)
+}
+
+// How many routes, at most 64.
+pub fn route_count(st: Station) -> usize
+    ensures { λ r. ⌜ r ≡ routeCount st ⌝ }
+{
+    observe::at_most_64(st.routes)
+}
+
+// How many zones, at most 8.
+pub fn zone_count(st: Station) -> usize
+    ensures { λ r. ⌜ r ≡ zoneCount st ⌝ }
+{
+    let n = st.zones as usize;
+    if n < ZONES {
+        return n;
+    }
+    ZONES
+}
+
+// The zone of a turnout, as stored; 0 from 64 on.
+pub fn zone_of(st: Station, n: usize) -> u8
+    ensures { λ r. ⌜ r ≡ zoneOf st n ⌝ }
+{
+    let ts = st.turnout;
+    let t = observe::record_of(ts, n);
+    t.zone
+}
+
+// The drive of a turnout, as stored; 0 from 64 on.
+pub fn drive_of(st: Station, n: usize) -> u8
+    ensures { λ r. ⌜ r ≡ driveOf st n ⌝ }
+{
+    let ts = st.turnout;
+    let t = observe::record_of(ts, n);
+    t.drive
+}
+
+// The turnouts tied to a turnout: itself and its partner.
+pub fn tied_to(st: Station, n: usize) -> u64
+    ensures { λ r. ⌜ r ≡ tied st n ⌝ }
+{
+    let ts = st.turnout;
+    let t = observe::record_of(ts, n);
+    observe::tied_with(turnout_count(st), n, t.partner)
+}
+
+// The turnouts of a zone.
+pub fn turnouts_of_zone(st: Station, z: u8) -> u64
+    ensures { λ r. ⌜ r ≡ zoneTurnouts st z ⌝ }
+{
+    let n = turnout_count(st);
+    let mut found: u64 = 0;
+    let mut i: usize = 0;
+    while i < n {
+        let t = st.turnout[i];
+        found = observe::with_turnout(found, i, t.zone == z);
+        i += 1;
+    }
+    found
+}
+
+// A route that names nothing.
+pub fn route_none() -> Route
+    ensures { λ r. ⌜ r ≡ emptyRoute ⌝ }
+{
+    observe::no_route()
+}
+
+// The code where a test holds, else the rest of the answer.
+pub fn first_code(test: bool, code: u8, rest: u8) -> u8
+    ensures { λ r. ⌜ r ≡ cond test code rest ⌝ }
+{
+    if test { code } else { rest }
+}
+
+// A route; one not below R has every number 0 and names nothing.
+pub fn route_of(st: Station, n: usize) -> Route
+    ensures { λ r. ⌜ r ≡ theRoute st n ⌝ }
+{
+    if n < route_count(st) {
+        return st.route[n];
+    }
+    observe::no_route()
+}
+
+// The turnouts that a route names: those that it runs over, of its flank and of its exit zone.
+pub fn names(r: Route) -> u64
+    ensures { λ s. ⌜ s ≡ namedBy r ⌝ }
+{
+    sets::join(sets::join(r.over, r.flank), r.exits)
+}
+
+// Whether a set has one end of a crossover and not the other.
+pub fn splits_crossover(st: Station, s: u64) -> bool
+    ensures { λ r. ⌜ r ≡ splits st s ⌝ }
+{
+    let n = turnout_count(st);
+    let mut i: usize = 0;
+    while i < n {
+        let t = st.turnout[i];
+        if !observe::is_whole(observe::tied_with(n, i, t.partner), s) {
+            return true;
+        }
+        i += 1;
+    }
+    false
+}

@@ -1,0 +1,12 @@
+use borrow.Author.Needs.{needs}
+use Rattle.checks.proofs.no_movement_under.Statement.{statement}
+use Rattle.checks.proofs.no_movement_under.Tie as tie
+
+returns : tie.Need-returns
+returns c =
+    rw (
+    c .under-train .ensures
+    )
+
+pub no-movement-under-spec : {M : Type 1} → statement M
+no-movement-under-spec = tie.close (tie.spec (λ c κs. search needs) returns)

@@ -1,0 +1,123 @@
+// The tests of document 01's table of kinds that look at more than one thing. The rules are in the crate zone, specs/Kinds.antt.
+ghost use mathlib.Core.Path.{_≡_};
+ghost use mathlib.Core.Bool.{_&&_, not};
+ghost use lib.Dec.{eqb};
+ghost use Rattle.sets.specs.Sets.{has, isEmpty, overlaps};
+ghost use Rattle.zone.specs.Work.{manner, workSet};
+ghost use Rattle.zone.specs.Movement.{clearedSet, namedTurnouts, workedTurnouts, regimeOf, orderRefused, routeFor};
+ghost use Rattle.zone.specs.Clearance.{clearanceFits};
+ghost use Rattle.zone.specs.Kinds.{noWorkUnder, noMovementUnder, badRequest, badDetection, badRoute, badPart};
+use message::Message;
+use station::Station;
+use zone::Movement;
+use zone::Work;
+use zone::Zone;
+use zone::clearances::clearance_fits;
+use zone::movements::cleared_set;
+use zone::movements::named_turnouts;
+use zone::movements::order_refused;
+use zone::movements::regime;
+use zone::movements::route_for;
+use zone::movements::under_train;
+use zone::movements::worked_turnouts;
+use zone::works::manner_of;
+use zone::works::under_form;
+
+// 15: no work under this id.
+pub fn no_work_under(z: Zone, m: Message) -> bool
+    ensures { λ r. ⌜ r ≡ noWorkUnder z m ⌝ }
+{
+    let w = z.work;
+    !under_form(w, m.id)
+}
+
+// 15: no movement under this id.
+pub fn no_movement_under(z: Zone, m: Message) -> bool
+    ensures { λ r. ⌜ r ≡ noMovementUnder z m ⌝ }
+{
+    let v = z.movement;
+    !under_train(v, m.id)
+}
+
+// 17 of a request: empty, outside the zone or splitting a crossover.
+pub fn bad_request(st: Station, zone: u8, a: u64) -> bool
+    ensures { λ r. ⌜ r ≡ badRequest st zone a ⌝ }
+{
+    sets::is_empty(a)
+        | !sets::is_within(a, station::turnouts_of_zone(st, zone))
+        | station::splits_crossover(st, a)
+}
+
+// 17 of detection off: both empty, overlapping or outside the work.
+pub fn bad_detection(set: u64, a: u64, b: u64) -> bool
+    ensures { λ r. ⌜ r ≡ badDetection set a b ⌝ }
+{
+    let both = sets::join(a, b);
+    sets::is_empty(both) | sets::overlap(a, b) | !sets::is_within(both, set)
+}
+
+// 17 of a movement: route not below R or of another zone.
+pub fn bad_route(st: Station, zone: u8, route: u8) -> bool
+    ensures { λ r. ⌜ r ≡ badRoute st zone route ⌝ }
+{
+    let n = route as usize;
+    let r = station::route_of(st, n);
+    let count = station::route_count(st);
+    !(n < count) | !(r.zone == zone)
+}
+
+// 17 of a part restored: empty, not a proper part of the work, or splitting a crossover.
+pub fn bad_part(st: Station, set: u64, a: u64) -> bool
+    ensures { λ r. ⌜ r ≡ badPart st set a ⌝ }
+{
+    sets::is_empty(a) | !sets::is_within(a, set) | (a == set) | station::splits_crossover(st, a)
+}
+
+// 19: whether a standing movement names a turnout of the set.
+pub fn names_of(st: Station, v: Movement, s: u64) -> bool
+    ensures { λ r. ⌜ r ≡ overlaps (namedTurnouts st v) s ⌝ }
+{
+    sets::overlap(named_turnouts(st, v), s)
+}
+
+// 19 of detection off: a cleared turnout in a or b.
+pub fn cleared_among(v: Movement, s: u64) -> bool
+    ensures { λ r. ⌜ r ≡ overlaps (clearedSet v) s ⌝ }
+{
+    sets::overlap(cleared_set(v), s)
+}
+
+// 22 of detection off: a portable device under a verbal request.
+pub fn device_under_verbal(w: Work, b: u64) -> bool
+    ensures { λ r. ⌜ r ≡ (not (isEmpty b) && eqb (manner w) 2) ⌝ }
+{
+    !sets::is_empty(b) & (manner_of(w) == 2)
+}
+
+// 16 of a clearance: the turnout is cleared already.
+pub fn is_cleared(v: Movement, n: u8) -> bool
+    ensures { λ r. ⌜ r ≡ has (clearedSet v) n ⌝ }
+{
+    sets::contains(cleared_set(v), n as usize)
+}
+
+// 17 of a clearance: the turnout is not under agreed work or not named.
+pub fn not_worked(st: Station, w: Work, v: Movement, n: u8) -> bool
+    ensures { λ r. ⌜ r ≡ not (has (workedTurnouts st w v) n) ⌝ }
+{
+    !sets::contains(worked_turnouts(st, w, v), n as usize)
+}
+
+// 20: the clearance does not fit its turnout.
+pub fn misfit(st: Station, v: Movement, m: Message) -> bool
+    ensures { λ r. ⌜ r ≡ not (clearanceFits st (routeFor st v) m) ⌝ }
+{
+    !clearance_fits(st, route_for(st, v), m)
+}
+
+// 22 of an order: the regime forbids it.
+pub fn order_forbidden(st: Station, w: Work, v: Movement, order: u8) -> bool
+    ensures { λ r. ⌜ r ≡ orderRefused order (regimeOf st w v) ⌝ }
+{
+    order_refused(order, regime(st, w, v))
+}

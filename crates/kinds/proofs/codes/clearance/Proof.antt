@@ -1,0 +1,36 @@
+use Rattle.zone.specs.Kinds.{row}
+use borrow.Author.Needs.{needs}
+use Rattle.kinds.proofs.codes.clearance.Statement.{statement}
+use Rattle.kinds.proofs.codes.clearance.Tie as tie
+
+returns : tie.Need-returns
+unfolding row
+returns c =
+    rw (
+      c .first-code5 .ensures,
+      c .before .no-movement-under .ensures,
+      c .before .before .first-code4 .ensures,
+      c .before .before .before .is-cleared .ensures,
+      c .before .before .before .before .first-code3 .ensures,
+      c .before .before .before .before .before .not-worked .ensures,
+      c .before .before .before .before .before .before .first-code2 .ensures,
+      c .before .before .before .before .before .before .before .misfit .ensures,
+      c .before .before .before .before .before .before .before .before .first-code .ensures,
+      c .before .before .before .before .before .before .before .before .before .medium-fits .ensures,
+    )
+
+pub clearance-spec : {M : Type 1} → statement M
+clearance-spec =
+    tie.close
+    (tie.spec
+    (λ c κs. search needs)
+    (λ c κs. search needs)
+    (λ c κs. search needs)
+    (λ c κs. search needs)
+    (λ c κs. search needs)
+    (λ c κs. search needs)
+    (λ c κs. search needs)
+    (λ c κs. search needs)
+    (λ c κs. search needs)
+    (λ c κs. search needs)
+    returns)

@@ -1,0 +1,24 @@
+use Rattle.zone.specs.Kinds.{row}
+use borrow.Author.Needs.{needs}
+use Rattle.kinds.proofs.codes.withdrawn.Statement.{statement}
+use Rattle.kinds.proofs.codes.withdrawn.Tie as tie
+
+returns : tie.Need-returns
+unfolding row
+returns c =
+    rw (
+      c .first-code2 .ensures,
+      c .before .no-work-under .ensures,
+      c .before .before .first-code .ensures,
+      c .before .before .before .is-agreed .ensures,
+    )
+
+pub withdrawn-spec : {M : Type 1} → statement M
+withdrawn-spec =
+    tie.close
+    (tie.spec
+    (λ c κs. search needs)
+    (λ c κs. search needs)
+    (λ c κs. search needs)
+    (λ c κs. search needs)
+    returns)

@@ -1,0 +1,19 @@
+use Rattle.zone.specs.Kinds.{answered, zoneAfter, workAfter, movementAfter, recorderAfter, minutesFor}
+use borrow.Author.Needs.{needs}
+use Rattle.kinds.proofs.ordered.Statement.{statement}
+use Rattle.kinds.proofs.ordered.Tie as tie
+
+returns : tie.Need-returns
+unfolding answered zoneAfter workAfter movementAfter recorderAfter minutesFor
+returns c =
+    rw (
+      c .settle .ensures,
+      c .before .ordered .ensures,
+      c .before .before .with-movement .ensures,
+      c .before .before .before .ordered-as .ensures,
+    )
+
+pub ordered-spec : {M : Type 1} → statement M
+ordered-spec =
+    tie.close
+    (tie.spec (λ c κs. search needs) (λ c κs. search needs) (λ c κs. search needs) (λ c κs. search needs) returns)

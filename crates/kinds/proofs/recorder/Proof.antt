@@ -1,0 +1,12 @@
+use mathlib.Core.Path.{refl}
+use Rattle.zone.specs.Kinds.{answered, row, zoneAfter, workAfter, movementAfter, recorderAfter, minutesFor}
+use Rattle.kinds.proofs.recorder.Statement.{statement}
+use Rattle.kinds.proofs.recorder.Tie as tie
+
+returns : tie.Need-returns
+unfolding answered row zoneAfter workAfter movementAfter recorderAfter minutesFor
+returns c =
+    refl
+
+pub recorder-spec : {M : Type 1} → statement M
+recorder-spec = tie.close (tie.spec returns)

@@ -1,0 +1,216 @@
+// The twelve kinds of message over one zone (document 01's table of kinds): each is its checks, in the written order, and its
+// effect. The rules are in the crate zone, specs/Kinds.antt.
+ghost use mathlib.Core.Path.{_≡_};
+ghost use Rattle.zone.specs.Kinds.{answered, heard};
+
+mod codes;
+
+use message::Message;
+use station::Station;
+use zone::Answer;
+use zone::Movement;
+use zone::Work;
+use zone::Zone;
+use zone::clearances::is_efficient;
+use zone::movements::cleared_at;
+use zone::movements::movement_for;
+use zone::movements::ordered_as;
+use zone::settle;
+use zone::works::agreed_at;
+use zone::works::agreed_from;
+use zone::works::asked_for;
+use zone::works::minutes_between;
+use zone::works::opened_to;
+use zone::works::restored_of;
+use zone::works::shut_to;
+
+// The numbers that refuse a message in its zone.
+pub const TOO_EARLY: u8 = 14;
+
+pub const NOT_UNDER_THIS_ID: u8 = 15;
+
+pub const ALREADY_THERE: u8 = 16;
+
+pub const BAD_TURNOUTS: u8 = 17;
+
+pub const WRONG_STAGE: u8 = 18;
+
+pub const MOVEMENT_IN_THE_WAY: u8 = 19;
+
+pub const CLEARANCE_DOES_NOT_FIT: u8 = 20;
+
+pub const WRONG_MEDIUM: u8 = 21;
+
+pub const FORBIDDEN: u8 = 22;
+
+// The zone with other work, at a time.
+fn with_work(z: Zone, w: Work, time: u32) -> Zone
+    ensures { λ r. ⌜ r ≡ record { work = w; movement = z .movement; recorder = z .recorder; time = time } ⌝ }
+{
+    let v = z.movement;
+    Zone {
+        work: w,
+        movement: v,
+        recorder: z.recorder,
+        time,
+    }
+}
+
+// The zone with another movement, at a time.
+fn with_movement(z: Zone, v: Movement, time: u32) -> Zone
+    ensures { λ r. ⌜ r ≡ record { work = z .work; movement = v; recorder = z .recorder; time = time } ⌝ }
+{
+    let w = z.work;
+    Zone {
+        work: w,
+        movement: v,
+        recorder: z.recorder,
+        time,
+    }
+}
+
+fn work_asked(st: Station, z: Zone, m: Message) -> Answer
+    ensures { λ r. ⌜ r ≡ answered 1 st z m ⌝ }
+{
+    let next = with_work(z, asked_for(m.id, m.d0, m.a), m.time);
+    settle(z, codes::work_asked(st, z, m), 0, next)
+}
+
+fn agreed(st: Station, z: Zone, m: Message) -> Answer
+    ensures { λ r. ⌜ r ≡ answered 2 st z m ⌝ }
+{
+    let w = z.work;
+    let next = with_work(z, agreed_from(w, m.time), m.time);
+    settle(z, codes::agreed(st, z, m), 0, next)
+}
+
+fn withdrawn(st: Station, z: Zone, m: Message) -> Answer
+    ensures { λ r. ⌜ r ≡ answered 3 st z m ⌝ }
+{
+    let next = with_work(z, Work::NoWork, m.time);
+    settle(z, codes::withdrawn(st, z, m), 0, next)
+}
+
+fn detection_off(st: Station, z: Zone, m: Message) -> Answer
+    ensures { λ r. ⌜ r ≡ answered 4 st z m ⌝ }
+{
+    let w = z.work;
+    let next = with_work(z, opened_to(w, sets::join(m.a, m.b)), m.time);
+    settle(z, codes::detection_off(st, z, m), 0, next)
+}
+
+fn movement_asked(st: Station, z: Zone, m: Message) -> Answer
+    ensures { λ r. ⌜ r ≡ answered 5 st z m ⌝ }
+{
+    let next = with_movement(z, movement_for(m.id, m.d0), m.time);
+    settle(z, codes::movement_asked(st, z, m), 0, next)
+}
+
+fn clearance(st: Station, z: Zone, m: Message) -> Answer
+    ensures { λ r. ⌜ r ≡ answered 6 st z m ⌝ }
+{
+    let w = z.work;
+    let v = z.movement;
+    let next = Zone {
+        work: shut_to(w, sets::only(m.d0 as usize)),
+        movement: cleared_at(v, m.d0, is_efficient(m.d1)),
+        recorder: z.recorder,
+        time: m.time,
+    };
+    settle(z, codes::clearance(st, z, m), 0, next)
+}
+
+fn ordered(st: Station, z: Zone, m: Message) -> Answer
+    ensures { λ r. ⌜ r ≡ answered 7 st z m ⌝ }
+{
+    let v = z.movement;
+    let next = with_movement(z, ordered_as(v, m.d0), m.time);
+    settle(z, codes::ordered(st, z, m), 0, next)
+}
+
+fn passed(st: Station, z: Zone, m: Message) -> Answer
+    ensures { λ r. ⌜ r ≡ answered 8 st z m ⌝ }
+{
+    let next = with_movement(z, Movement::NoMovement, m.time);
+    settle(z, codes::passed(st, z, m), 0, next)
+}
+
+fn cancelled(st: Station, z: Zone, m: Message) -> Answer
+    ensures { λ r. ⌜ r ≡ answered 9 st z m ⌝ }
+{
+    let next = with_movement(z, Movement::NoMovement, m.time);
+    settle(z, codes::cancelled(st, z, m), 0, next)
+}
+
+fn part_restored(st: Station, z: Zone, m: Message) -> Answer
+    ensures { λ r. ⌜ r ≡ answered 10 st z m ⌝ }
+{
+    let w = z.work;
+    let next = with_work(z, restored_of(w, m.a), m.time);
+    settle(z, codes::part_restored(st, z, m), 0, next)
+}
+
+fn all_restored(st: Station, z: Zone, m: Message) -> Answer
+    ensures { λ r. ⌜ r ≡ answered 11 st z m ⌝ }
+{
+    let w = z.work;
+    let next = with_work(z, Work::NoWork, m.time);
+    settle(
+        z,
+        codes::all_restored(st, z, m),
+        minutes_between(agreed_at(w), m.time),
+        next,
+    )
+}
+
+fn recorder(st: Station, z: Zone, m: Message) -> Answer
+    ensures { λ r. ⌜ r ≡ answered 12 st z m ⌝ }
+{
+    let w = z.work;
+    let v = z.movement;
+    Answer {
+        code: 0,
+        minutes: 0,
+        zone: Zone {
+            work: w,
+            movement: v,
+            recorder: m.d0 == 1,
+            time: m.time,
+        },
+    }
+}
+
+fn refused(z: Zone, code: u8) -> Answer
+    ensures { λ r. ⌜ r ≡ record { code = code; minutes = 0; zone = z } ⌝ }
+{
+    Answer {
+        code,
+        minutes: 0,
+        zone: z,
+    }
+}
+
+// A message heard by its zone: 14, then the checks and the effect of its kind.
+pub fn hear(st: Station, z: Zone, m: Message) -> Answer
+    ensures { λ r. ⌜ r ≡ heard st z m ⌝ }
+{
+    if m.time < z.time {
+        return refused(z, TOO_EARLY);
+    }
+    let kind = m.kind;
+    match kind {
+        message::WORK_ASKED => work_asked(st, z, m),
+        message::AGREED => agreed(st, z, m),
+        message::WITHDRAWN => withdrawn(st, z, m),
+        message::DETECTION_OFF => detection_off(st, z, m),
+        message::MOVEMENT_ASKED => movement_asked(st, z, m),
+        message::CLEARANCE => clearance(st, z, m),
+        message::ORDERED => ordered(st, z, m),
+        message::PASSED => passed(st, z, m),
+        message::CANCELLED => cancelled(st, z, m),
+        message::PART_RESTORED => part_restored(st, z, m),
+        message::ALL_RESTORED => all_restored(st, z, m),
+        message::RECORDER => recorder(st, z, m),
+        _ => refused(z, message::BAD_KIND),
+    }
+}

@@ -1,0 +1,32 @@
+use Rattle.zone.specs.Movement.{regimeOf}
+use borrow.Author.Needs.{needs}
+use Rattle.zone.proofs.movements.regime.Statement.{statement}
+use Rattle.zone.proofs.movements.regime.Tie as tie
+
+returns : tie.Need-returns
+unfolding regimeOf
+returns c =
+    rw (← c .before .before .lacking-clearance .ensures, ← c .before .is-empty .ensures, c .if1 .taken)
+
+returns-2 : tie.Need-returns-2
+unfolding regimeOf
+returns-2 c =
+    rw (← c .before .before .before .before .before .before .lacking-clearance .ensures, ← c .before .before .before .before .before .is-empty .ensures, c .before .before .before .before .if1 .left, ← c .before .before .before .worked-turnouts .ensures, ← c .before .before .efficient-set .ensures, ← c .before .is-within .ensures, c .if2 .taken)
+
+returns-3 : tie.Need-returns-3
+unfolding regimeOf
+returns-3 c =
+    rw (← c .before .before .before .before .before .before .lacking-clearance .ensures, ← c .before .before .before .before .before .is-empty .ensures, c .before .before .before .before .if1 .left, ← c .before .before .before .worked-turnouts .ensures, ← c .before .before .efficient-set .ensures, ← c .before .is-within .ensures, c .if2 .left)
+
+pub regime-spec : {M : Type 1} → statement M
+regime-spec =
+    tie.close
+    (tie.spec
+    (λ c κs. search needs)
+    (λ c κs. search needs)
+    returns
+    (λ c κs. search needs)
+    (λ c κs. search needs)
+    (λ c κs. search needs)
+    returns-2
+    returns-3)

@@ -1,0 +1,4 @@
+pub mod Work
+pub mod Movement
+pub mod Clearance
+pub mod Kinds

@@ -1,0 +1,107 @@
+-- The movement of a zone: none, or one that stands; what it says, and what the kinds do to it. Nothing else looks into a movement.
+use mathlib.Core.Bool.{Bool, true, false, cond, not, _&&_}
+use Prim.Native.Nat.{ℕ}
+use lib.Dec.{eqb}
+use lib.Bits.{bitAnd}
+use Rattle.sets.specs.Sets.{union, without, within, isEmpty, single}
+use Rattle.station.specs.declared.Station.{Station}
+use Rattle.station.specs.declared.Route.{Route}
+use Rattle.station.specs.Station.{emptyRoute, theRoute, namedBy}
+use Rattle.zone.specs.declared.Passage.{Passage}
+use Rattle.zone.specs.declared.Movement.{Movement}
+use Rattle.zone.specs.declared.Movement.the-variants.{NoMovement, Standing}
+use Rattle.zone.specs.declared.Regime.{Regime}
+use Rattle.zone.specs.declared.Regime.the-variants.{Held, Clear, Danger}
+use Rattle.zone.specs.declared.Work.{Work}
+use Rattle.zone.specs.Work.{agreedSet}
+
+abbrev pub isStanding : Movement → Bool
+isStanding NoMovement = false
+isStanding (Standing p) = true
+
+abbrev pub trainOf : Movement → ℕ
+trainOf NoMovement = 0
+trainOf (Standing p) = p .train
+
+-- a movement "under this id"
+abbrev pub underTrain : Movement → ℕ → Bool
+underTrain v id = isStanding v && eqb (trainOf v) id
+
+-- 0 not ordered, 1 ordered clear, 2 ordered at danger
+abbrev pub orderOf : Movement → ℕ
+orderOf NoMovement = 0
+orderOf (Standing p) = p .order
+
+abbrev pub isOrdered : Movement → Bool
+isOrdered v = not (eqb (orderOf v) 0)
+
+abbrev pub clearedSet : Movement → ℕ
+clearedSet NoMovement = 0
+clearedSet (Standing p) = p .cleared
+
+-- the cleared turnouts whose declaration means all efficient
+abbrev pub efficientSet : Movement → ℕ
+efficientSet NoMovement = 0
+efficientSet (Standing p) = p .efficient
+
+-- the route of the movement; where none stands, one that names nothing
+abbrev pub routeFor : Station → Movement → Route
+routeFor st NoMovement = emptyRoute
+routeFor st (Standing p) = theRoute st (p .route)
+
+-- the turnouts that a standing movement names
+abbrev pub namedTurnouts : Station → Movement → ℕ
+namedTurnouts st v = namedBy (routeFor st v)
+
+-- "the route's turnouts under agreed work"
+abbrev pub workedTurnouts : Station → Work → Movement → ℕ
+workedTurnouts st w v = bitAnd (namedTurnouts st v) (agreedSet w)
+
+-- those of them that lack a clearance
+abbrev pub lacking : Station → Work → Movement → ℕ
+lacking st w v = without (workedTurnouts st w v) (clearedSet v)
+
+-- "Regime: of the route's turnouts under agreed work, held if one lacks a clearance, else clear if all carry 1 or 2, else danger."
+unfoldable pub regimeOf : Station → Work → Movement → Regime
+regimeOf st w v =
+    cond (not (isEmpty (lacking st w v))) Held (cond (within (workedTurnouts st w v) (efficientSet v)) Clear Danger)
+
+abbrev pub isHeld : Regime → Bool
+isHeld Held = true
+isHeld Clear = false
+isHeld Danger = false
+
+abbrev pub isClear : Regime → Bool
+isClear Held = false
+isClear Clear = true
+isClear Danger = false
+
+-- "Order 22: clear needs clear; danger needs not held."
+abbrev pub orderRefused : ℕ → Regime → Bool
+orderRefused order regime = cond (eqb order 1) (not (isClear regime)) (isHeld regime)
+
+-- 5: "movement asked"
+abbrev pub movementFor : ℕ → ℕ → Movement
+movementFor train route = Standing (record { train = train; route = route; order = 0; cleared = 0; efficient = 0 })
+
+-- 6: "cleared"; efficient or not as the declaration says
+abbrev pub clearedAt : Movement → ℕ → Bool → Movement
+clearedAt NoMovement n efficient = NoMovement
+clearedAt (Standing p) n efficient = Standing (record {
+  train = p .train;
+  route = p .route;
+  order = p .order;
+  cleared = union (p .cleared) (single n);
+  efficient = union (p .efficient) (cond efficient (single n) 0);
+})
+
+-- 7: "ordered"
+abbrev pub orderedAs : Movement → ℕ → Movement
+orderedAs NoMovement order = NoMovement
+orderedAs (Standing p) order = Standing (record {
+  train = p .train;
+  route = p .route;
+  order = order;
+  cleared = p .cleared;
+  efficient = p .efficient;
+})

@@ -1,0 +1,102 @@
+// The state of one zone of the works desk: its work, its movement, its recorder, its last accepted time; what they say, and what
+// messages do to them. The rules are in specs/: Work.antt, Movement.antt and Clearance.antt, and the twelve kinds in Kinds.antt.
+// Every function takes any value, also one that no desk gave.
+ghost use mathlib.Core.Path.{_≡_};
+ghost use Rattle.zone.specs.Kinds.{settled, freshZone};
+
+pub mod clearances;
+pub mod movements;
+pub mod works;
+
+// What was asked for: the form number, how it was recorded (1 form M.45, 2 recorded verbal), the turnouts.
+pub struct Request {
+    pub form: u32,
+    pub manner: u8,
+    pub set: u64,
+}
+
+// An agreed request: also when it was agreed to, and the turnouts that are open to work.
+pub struct Agreement {
+    pub form: u32,
+    pub manner: u8,
+    pub set: u64,
+    pub since: u32,
+    pub opened: u64,
+}
+
+// The work of a zone.
+pub enum Work {
+    NoWork,
+    Asked(Request),
+    Agreed(Agreement),
+}
+
+// A movement that stands: its train, its route, the order given (0 none, 1 clear, 2 danger), the turnouts cleared for it and
+// those of them whose declaration means all efficient.
+pub struct Passage {
+    pub train: u32,
+    pub route: u8,
+    pub order: u8,
+    pub cleared: u64,
+    pub efficient: u64,
+}
+
+// The movement of a zone.
+pub enum Movement {
+    NoMovement,
+    Standing(Passage),
+}
+
+// Document 01's regimes.
+pub enum Regime {
+    Held,
+    Clear,
+    Danger,
+}
+
+// A zone; the recorder is true while it works.
+pub struct Zone {
+    pub work: Work,
+    pub movement: Movement,
+    pub recorder: bool,
+    pub time: u32,
+}
+
+// The answer to a message: its code, the minutes, and the zone after it.
+pub struct Answer {
+    pub code: u8,
+    pub minutes: u32,
+    pub zone: Zone,
+}
+
+impl Zone {
+    // A zone with no work and no movement, its recorder working, its time 0.
+    pub fn fresh() -> Zone
+        ensures { λ r. ⌜ r ≡ freshZone ⌝ }
+    {
+        Zone {
+            work: Work::NoWork,
+            movement: Movement::NoMovement,
+            recorder: true,
+            time: 0,
+        }
+    }
+}
+
+// The answer of a code: 0 gives the next zone and the minutes, any other the zone as it was.
+pub fn settle(z: Zone, code: u8, minutes: u32, next: Zone) -> Answer
+    ensures { λ r. ⌜ r ≡ settled z code minutes next ⌝ }
+{
+    if code == 0 {
+        return Answer {
+            code: 0,
+            minutes,
+            zone: next,
+        };
+    }
+    Answer {
+        code,
+        minutes: 0,
+        zone: z,
+    }
+}

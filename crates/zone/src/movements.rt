@@ -1,0 +1,221 @@
+// The movement of a zone: what it says, and what messages do to it.
+ghost use mathlib.Core.Path.{_≡_};
+ghost use Rattle.zone.specs.Movement.{
+  isStanding,
+  trainOf,
+  underTrain,
+  orderOf,
+  isOrdered,
+  clearedSet,
+  efficientSet,
+  routeFor,
+  namedTurnouts,
+  workedTurnouts,
+  lacking,
+  regimeOf,
+  orderRefused,
+  isHeld,
+  isClear,
+  movementFor,
+  clearedAt,
+  orderedAs,
+};
+ghost use mathlib.Core.Bool.{cond};
+ghost use Rattle.sets.specs.Sets.{single};
+use super::Movement;
+use super::Passage;
+use super::Regime;
+use super::Work;
+use super::works::agreed_set;
+use station::Route;
+use station::Station;
+
+pub fn is_standing(v: Movement) -> bool
+    ensures { λ r. ⌜ r ≡ isStanding v ⌝ }
+{
+    match v {
+        Movement::NoMovement => false,
+        Movement::Standing(_) => true,
+    }
+}
+
+fn train_of(v: Movement) -> u32
+    ensures { λ r. ⌜ r ≡ trainOf v ⌝ }
+{
+    match v {
+        Movement::NoMovement => 0,
+        Movement::Standing(p) => p.train,
+    }
+}
+
+// Whether a movement of this train stands.
+pub fn under_train(v: Movement, id: u32) -> bool
+    ensures { λ r. ⌜ r ≡ underTrain v id ⌝ }
+{
+    is_standing(v) & (train_of(v) == id)
+}
+
+// The order given: 0 none, 1 clear, 2 danger.
+pub fn order_of(v: Movement) -> u8
+    ensures { λ r. ⌜ r ≡ orderOf v ⌝ }
+{
+    match v {
+        Movement::NoMovement => 0,
+        Movement::Standing(p) => p.order,
+    }
+}
+
+pub fn is_ordered(v: Movement) -> bool
+    ensures { λ r. ⌜ r ≡ isOrdered v ⌝ }
+{
+    order_of(v) != 0
+}
+
+// The turnouts cleared for the movement.
+pub fn cleared_set(v: Movement) -> u64
+    ensures { λ r. ⌜ r ≡ clearedSet v ⌝ }
+{
+    match v {
+        Movement::NoMovement => 0,
+        Movement::Standing(p) => p.cleared,
+    }
+}
+
+// The cleared turnouts whose declaration means all efficient.
+pub fn efficient_set(v: Movement) -> u64
+    ensures { λ r. ⌜ r ≡ efficientSet v ⌝ }
+{
+    match v {
+        Movement::NoMovement => 0,
+        Movement::Standing(p) => p.efficient,
+    }
+}
+
+// The route of the movement; where none stands, one that names nothing.
+pub fn route_for(st: Station, v: Movement) -> Route
+    ensures { λ r. ⌜ r ≡ routeFor st v ⌝ }
+{
+    match v {
+        Movement::NoMovement => station::route_none(),
+        Movement::Standing(p) => station::route_of(st, p.route as usize),
+    }
+}
+
+// The turnouts that a standing movement names.
+pub fn named_turnouts(st: Station, v: Movement) -> u64
+    ensures { λ r. ⌜ r ≡ namedTurnouts st v ⌝ }
+{
+    station::names(route_for(st, v))
+}
+
+// The movement's turnouts under agreed work.
+pub fn worked_turnouts(st: Station, w: Work, v: Movement) -> u64
+    ensures { λ r. ⌜ r ≡ workedTurnouts st w v ⌝ }
+{
+    named_turnouts(st, v) & agreed_set(w)
+}
+
+// Those of them that lack a clearance.
+pub fn lacking_clearance(st: Station, w: Work, v: Movement) -> u64
+    ensures { λ r. ⌜ r ≡ lacking st w v ⌝ }
+{
+    sets::minus(worked_turnouts(st, w, v), cleared_set(v))
+}
+
+// The regime of the movement.
+pub fn regime(st: Station, w: Work, v: Movement) -> Regime
+    ensures { λ r. ⌜ r ≡ regimeOf st w v ⌝ }
+{
+    if !sets::is_empty(lacking_clearance(st, w, v)) {
+        return Regime::Held;
+    }
+    if sets::is_within(worked_turnouts(st, w, v), efficient_set(v)) {
+        return Regime::Clear;
+    }
+    Regime::Danger
+}
+
+fn is_held(r: Regime) -> bool
+    ensures { λ b. ⌜ b ≡ isHeld r ⌝ }
+{
+    match r {
+        Regime::Held => true,
+        Regime::Clear => false,
+        Regime::Danger => false,
+    }
+}
+
+fn is_clear(r: Regime) -> bool
+    ensures { λ b. ⌜ b ≡ isClear r ⌝ }
+{
+    match r {
+        Regime::Held => false,
+        Regime::Clear => true,
+        Regime::Danger => false,
+    }
+}
+
+// Whether the regime forbids an order, 1 clear or 2 danger.
+pub fn order_refused(order: u8, r: Regime) -> bool
+    ensures { λ b. ⌜ b ≡ orderRefused order r ⌝ }
+{
+    if order == 1 {
+        return !is_clear(r);
+    }
+    is_held(r)
+}
+
+// A movement asked for.
+pub fn movement_for(train: u32, route: u8) -> Movement
+    ensures { λ r. ⌜ r ≡ movementFor train route ⌝ }
+{
+    Movement::Standing(Passage {
+        train,
+        route,
+        order: 0,
+        cleared: 0,
+        efficient: 0,
+    })
+}
+
+// The set of a turnout where the test holds.
+fn only_if(test: bool, n: usize) -> u64
+    ensures { λ r. ⌜ r ≡ cond test (single n) 0 ⌝ }
+{
+    if test {
+        return sets::only(n);
+    }
+    0
+}
+
+// The movement with a clearance for turnout n.
+pub fn cleared_at(v: Movement, n: u8, efficient: bool) -> Movement
+    ensures { λ r. ⌜ r ≡ clearedAt v n efficient ⌝ }
+{
+    match v {
+        Movement::NoMovement => Movement::NoMovement,
+        Movement::Standing(p) => Movement::Standing(Passage {
+            train: p.train,
+            route: p.route,
+            order: p.order,
+            cleared: sets::join(p.cleared, sets::only(n as usize)),
+            efficient: sets::join(p.efficient, only_if(efficient, n as usize)),
+        }),
+    }
+}
+
+// The movement with an order.
+pub fn ordered_as(v: Movement, order: u8) -> Movement
+    ensures { λ r. ⌜ r ≡ orderedAs v order ⌝ }
+{
+    match v {
+        Movement::NoMovement => Movement::NoMovement,
+        Movement::Standing(p) => Movement::Standing(Passage {
+            train: p.train,
+            route: p.route,
+            order,
+            cleared: p.cleared,
+            efficient: p.efficient,
+        }),
+    }
+}

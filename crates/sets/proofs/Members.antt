@@ -2,13 +2,13 @@
 use mathlib.Core.Bool.{Bool, true, false, cond, not, _&&_, and-eq-true-iff, false≢true}
 use mathlib.Core.Logic.{_↔_}
 use mathlib.Core.Path.{_≡_, refl, sym, ap, ap₂, _∙_}
-use Prim.Native.Nat.{ℕ, zero, suc, _+_, _-_, _*_, _/_, _%_, _^_, _<_, suc-le-suc}
-use native.Mathlib.Nat.{zero-lt-suc, div-one, div-add-mod', lt-of-le-of-lt}
+use Prim.Native.Nat.{ℕ, zero, suc, _+_, _-_, _*_, _/_, _%_, _^_, _<_, suc-le-suc, _≤_}
+use native.Mathlib.Nat.{pow-suc, lt-of-lt-of-le, zero-lt-suc, div-one, div-add-mod', lt-of-le-of-lt}
 use native.Mathlib.Omega.{arith}
 use borrow.Author.Tests.{eqb-true, eqb-false, eq-eqb, ne-eqb, not-true, not-false, ltb-true, ltb-false}
 use lib.Dec.{ltb}
 use lib.Arith.{lt-one}
-use lib.Pow.{pow-pos}
+use lib.Pow.{pow-mono, pow-pos}
 use lib.Bits.{bitAnd, and-le-l, mask-lt}
 use Rattle.sets.specs.Sets.{has, isEmpty, overlaps, within}
 use Rattle.sets.proofs.Membership.{half-lt, digit-has, has-suc, has-and, has-zero, has-beyond}
@@ -99,3 +99,35 @@ among-below k s n e m = go (ltb n k) refl
     go : (b : Bool) → ltb n k ≡ b → n < k
     go true q = ltb-true n k q
     go false q = absurd (false≢true (sym (has-beyond k s n small (ltb-false n k q)) ∙ m))
+
+-- for all numbers, words or not: a member of a set is a member of any set that the first is within
+pub within-member : (a b n : ℕ) → within a b ≡ true → has a n ≡ true → has b n ≡ true
+within-member a b n e m = has-other a b n m ∙ ap (λ (s : ℕ). has s n) (eqb-true (bitAnd a b) a e) ∙ m
+
+-- and no member of a set that does not overlap it
+pub disjoint-member : (a b n : ℕ) → overlaps a b ≡ false → has a n ≡ true → has b n ≡ false
+disjoint-member a b n e m =
+    has-other a b n m ∙ ap (λ (s : ℕ). has s n) (eqb-true (bitAnd a b) 0 (not-false (isEmpty (bitAnd a b)) e)) ∙ has-zero n
+
+-- a number is below the power of two of itself, so it has as many digits at most
+below-power : (n : ℕ) → n < 2 ^ n
+below-power zero = pow-pos 0
+below-power (suc n) =
+    let h : n < 2 ^ n = below-power n in
+    rw (pow-suc 2 n) (omega arith)
+
+-- two numbers with the same members are the same
+pub same-all : (a b : ℕ) → ((n : ℕ) → has a n ≡ has b n) → a ≡ b
+same-all a b same =
+    let k : ℕ = a + b in
+    let wide : (n : ℕ) → n ≤ k → n < 2 ^ k = λ n l. lt-of-lt-of-le (below-power n) (pow-mono l) in
+    same-digits k a b (wide a (omega arith)) (wide b (omega arith)) (λ n l. same n)
+
+-- a set is within another where each member of it is one of the other
+pub within-all : (a b : ℕ) → ((n : ℕ) → has a n ≡ true → has b n ≡ true) → within a b ≡ true
+within-all a b each =
+    eq-eqb (bitAnd a b) a (same-all (bitAnd a b) a (λ n. has-both a b n (has a n) sym (λ m. each n m ∙ sym m)))
+
+-- a set is empty where it has no member
+pub empty-all : (s : ℕ) → ((n : ℕ) → has s n ≡ false) → isEmpty s ≡ true
+empty-all s none = eq-eqb s 0 (same-all s 0 (λ n. none n ∙ sym (has-zero n)))

@@ -1,16 +1,16 @@
 -- Which turnouts are in the intersection, the union and the difference of two sets, in the set of one turnout and in
 -- the empty set.
-use mathlib.Core.Bool.{Bool, true, false, cond, not, _&&_, _||_}
+use mathlib.Core.Bool.{Bool, true, false, cond, not, _&&_, _||_, and-true, and-false, or-false}
 use mathlib.Core.Path.{_≡_, refl, sym, ap, ap₂, _∙_}
-use Prim.Native.Nat.{ℕ, zero, suc, _/_, _%_, _^_, _≤_, _<_}
-use native.Mathlib.Nat.{zero-div, div-one, div-eq-of-lt, mod-lt, mul-mod-left, mul-div-cancel, pow-suc, zero-lt-suc, lt-of-lt-of-le}
+use Prim.Native.Nat.{ℕ, zero, suc, _/_, _%_, _^_, _≤_, _<_, zero-le}
+use native.Mathlib.Nat.{le-refl, zero-div, div-one, div-eq-of-lt, mod-lt, mul-mod-left, mul-div-cancel, pow-suc, zero-lt-suc, lt-of-lt-of-le}
 use native.Mathlib.Numerals.{add-one, one-add}
 use native.Mathlib.Omega.{arith}
-use borrow.Author.Tests.{eqb-true, eqb-false, lt-ltb}
+use borrow.Author.Tests.{eqb-true, eqb-false, lt-ltb, le-ltb, ltb-true, ltb-false}
 use lib.Dec.{eqb, ltb, eqb·suc-zero, eqb·zero-suc, eqb·suc-suc}
 use lib.Pow.{pow-mono, shr-lt, shr-shr}
 use lib.Bits.{bitAnd, bitOr, bitXor, and-shr, or-shr, xor-shr, and-mod, or-mod, xor-mod}
-use Rattle.sets.specs.Sets.{has, single, without}
+use Rattle.sets.specs.Sets.{has, single, without, setOf}
 
 -- the lowest digit is 1: turnout n is in s where s / 2 ^ n is odd
 abbrev odd : ℕ → Bool
@@ -119,3 +119,28 @@ has-beyond k s n h l = ap odd (div-eq-of-lt (lt-of-lt-of-le h (pow-mono l)))
 -- no number from 64 on is in a word
 pub has-past : (s n : ℕ) → s < 2 ^ 64 → 64 ≤ n → has s n ≡ false
 has-past = has-beyond 64
+
+-- in the set of the numbers below n that pass a test: those
+pub has-setOf : (p : ℕ → Bool) (n k : ℕ) → n ≤ 64 → has (setOf p n) k ≡ (ltb k n && p k)
+unfolding setOf
+has-setOf p zero k limit = has-zero k ∙ sym (ap (λ (b : Bool). b && p k) (le-ltb k 0 zero-le))
+has-setOf p (suc n) k limit =
+    has-or (setOf p n) (cond (p n) (single n) 0) k
+    ∙ ap₂ (λ (a b : Bool). a || b) (has-setOf p n k (omega arith)) (here (p n)) ∙ joined (eqb k n) refl
+  where
+    here : (b : Bool) → has (cond b (single n) 0) k ≡ (eqb k n && b)
+    here true = has-single n k ∙ rw (lt-ltb n 64 limit) (sym (and-true (eqb k n)))
+    here false = has-zero k ∙ sym (and-false (eqb k n))
+
+    joined : (b : Bool) → eqb k n ≡ b → (ltb k n && p k || b && p n) ≡ (ltb k (suc n) && p k)
+    joined true e =
+        let same : k ≡ n = eqb-true k n e in
+        rw (same, le-ltb n n (le-refl n), lt-ltb n (suc n) (le-refl (suc n)))
+    joined false e = rw or-false (ap (λ (b : Bool). b && p k) (next (ltb k n) refl))
+      where
+        next : (b : Bool) → ltb k n ≡ b → ltb k n ≡ ltb k (suc n)
+        next true l = let below : k < n = ltb-true k n l in l ∙ sym (lt-ltb k (suc n) (omega arith))
+        next false l =
+            let other : k ≡ n → ⊥ = eqb-false k n e in
+            let past : n ≤ k = ltb-false k n l in
+            l ∙ sym (le-ltb k (suc n) (omega arith))

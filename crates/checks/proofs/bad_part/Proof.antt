@@ -1,3 +1,4 @@
+-- `checks::bad_part` meets its contract: the rule, from what each call ensures. Assumes nothing.
 use borrow.Author.Needs.{needs}
 use Rattle.checks.proofs.bad_part.Statement.{statement}
 use Rattle.checks.proofs.bad_part.Tie as tie

@@ -1,3 +1,4 @@
+-- `checks::bad_request` meets its contract: the rule, from what each call ensures. Assumes nothing.
 use borrow.Author.Needs.{needs}
 use Rattle.checks.proofs.bad_request.Statement.{statement}
 use Rattle.checks.proofs.bad_request.Tie as tie

@@ -1,3 +1,4 @@
+-- `checks::cleared_among` meets its contract: the rule, from what each call ensures. Assumes nothing.
 use borrow.Author.Needs.{needs}
 use Rattle.checks.proofs.cleared_among.Statement.{statement}
 use Rattle.checks.proofs.cleared_among.Tie as tie

@@ -1,3 +1,4 @@
+-- `checks::device_under_verbal` meets its contract: the rule, from what each call ensures. Assumes nothing.
 use borrow.Author.Needs.{needs}
 use Rattle.checks.proofs.device_under_verbal.Statement.{statement}
 use Rattle.checks.proofs.device_under_verbal.Tie as tie

@@ -1,3 +1,4 @@
+-- `checks::is_cleared` meets its contract: the rule, from what each call ensures. Assumes nothing.
 use borrow.Author.Needs.{needs}
 use Rattle.checks.proofs.is_cleared.Statement.{statement}
 use Rattle.checks.proofs.is_cleared.Tie as tie

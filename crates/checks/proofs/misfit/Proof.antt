@@ -1,3 +1,4 @@
+-- `checks::misfit` meets its contract: the rule, from what each call ensures. Assumes nothing.
 use borrow.Author.Needs.{needs}
 use Rattle.checks.proofs.misfit.Statement.{statement}
 use Rattle.checks.proofs.misfit.Tie as tie

@@ -1,3 +1,4 @@
+-- `checks::names_of` meets its contract: the rule, from what each call ensures. Assumes nothing.
 use borrow.Author.Needs.{needs}
 use Rattle.checks.proofs.names_of.Statement.{statement}
 use Rattle.checks.proofs.names_of.Tie as tie

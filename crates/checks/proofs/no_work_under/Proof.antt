@@ -1,3 +1,4 @@
+-- `checks::no_work_under` meets its contract: the rule, from what each call ensures. Assumes nothing.
 use borrow.Author.Needs.{needs}
 use Rattle.checks.proofs.no_work_under.Statement.{statement}
 use Rattle.checks.proofs.no_work_under.Tie as tie

@@ -1,3 +1,4 @@
+-- `checks::not_worked` meets its contract: the rule, from what each call ensures. Assumes nothing.
 use borrow.Author.Needs.{needs}
 use Rattle.checks.proofs.not_worked.Statement.{statement}
 use Rattle.checks.proofs.not_worked.Tie as tie

@@ -1,3 +1,4 @@
+-- `checks::order_forbidden` meets its contract: the rule, from what each call ensures. Assumes nothing.
 use borrow.Author.Needs.{needs}
 use Rattle.checks.proofs.order_forbidden.Statement.{statement}
 use Rattle.checks.proofs.order_forbidden.Tie as tie

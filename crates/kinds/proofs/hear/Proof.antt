@@ -1,3 +1,4 @@
+-- `kinds::hear` meets its contract: each way out is a case of the rule. Assumes nothing.
 use borrow.Author.Tests.{lt-ltb, le-ltb}
 use Rattle.zone.specs.Kinds.{heard, answered}
 use Rattle.kinds.proofs.NoKind.{no-kind}

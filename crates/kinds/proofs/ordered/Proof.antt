@@ -1,3 +1,4 @@
+-- `kinds::ordered` meets its contract: the rule, from what each call ensures. Assumes nothing.
 use Rattle.zone.specs.Kinds.{answered, zoneAfter, workAfter, movementAfter, recorderAfter, minutesFor}
 use borrow.Author.Needs.{needs}
 use Rattle.kinds.proofs.ordered.Statement.{statement}

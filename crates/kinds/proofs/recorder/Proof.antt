@@ -1,3 +1,4 @@
+-- `kinds::recorder` meets its contract: the rule, from what each call ensures. Assumes nothing.
 use mathlib.Core.Path.{refl}
 use Rattle.zone.specs.Kinds.{answered, row, zoneAfter, workAfter, movementAfter, recorderAfter, minutesFor}
 use Rattle.kinds.proofs.recorder.Statement.{statement}

@@ -1,3 +1,4 @@
+-- `station::read_sheet` meets its contract: each way out is a case of the rule. Assumes nothing.
 use borrow.Author.Tests.{eq-eqb, ne-eqb}
 use Rattle.station.specs.Sheet.{readSheet}
 use borrow.Author.Needs.{needs}

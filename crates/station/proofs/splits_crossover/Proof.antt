@@ -1,3 +1,4 @@
+-- `station::splits_crossover` meets its contract: the invariant says that what is still to be asked is the answer. Assumes nothing.
 use mathlib.Core.Path.{_≡_, sym, ap, _∙_}
 use mathlib.Core.Bool.{Bool, true, false, not}
 use Prim.Native.Nat.{ℕ, _-_, _≤_}

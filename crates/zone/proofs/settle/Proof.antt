@@ -1,3 +1,4 @@
+-- `zone::settle` meets its contract: each way out is a case of the rule. Assumes nothing.
 use borrow.Author.Tests.{eq-eqb, ne-eqb}
 use Rattle.zone.proofs.settle.Statement.{statement}
 use Rattle.zone.proofs.settle.Tie as tie

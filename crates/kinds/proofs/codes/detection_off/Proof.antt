@@ -1,3 +1,4 @@
+-- `kinds::codes::detection_off` meets its contract: the rule, from what each call ensures. Assumes nothing.
 use Rattle.zone.specs.Kinds.{row}
 use borrow.Author.Needs.{needs}
 use Rattle.kinds.proofs.codes.detection_off.Statement.{statement}

@@ -1,3 +1,4 @@
+-- `station::judge::first_bad_route` meets its contract: both invariants say that what is still to be found is the answer; the label leaves both loops with the index. Assumes nothing.
 use mathlib.Core.Path.{_≡_, sym, ap, _∙_}
 use mathlib.Core.Bool.{Bool, true, false, not, _&&_}
 use Prim.Native.Nat.{ℕ, _-_, _≤_, min}

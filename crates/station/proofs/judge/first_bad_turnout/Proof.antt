@@ -1,3 +1,4 @@
+-- `station::judge::first_bad_turnout` meets its contract: the invariant says that what is still to be found is the answer. Assumes nothing.
 use native.Mathlib.Nat.{sub-zero}
 use native.Mathlib.Omega.{arith}
 use Rattle.sets.proofs.Ranges.{first-next, first-end}

@@ -1,3 +1,4 @@
+-- `station::judge::judge` meets its contract: each way out is a case of the rule. Assumes nothing.
 use borrow.Author.Tests.{lt-ltb, le-ltb}
 use Rattle.station.specs.Sheet.{judged}
 use borrow.Author.Needs.{needs}

@@ -1,3 +1,4 @@
+-- `station::judge::member_kept` meets its contract: the rule, from what each call ensures. Assumes nothing.
 use borrow.Author.Needs.{needs}
 use Rattle.station.proofs.judge.member_kept.Statement.{statement}
 use Rattle.station.proofs.judge.member_kept.Tie as tie

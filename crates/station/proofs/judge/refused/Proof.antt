@@ -1,3 +1,4 @@
+-- `station::judge::refused` meets its contract: the rule, from what each call ensures. Assumes nothing.
 use Rattle.station.specs.Station.{emptyStation}
 use borrow.Author.Needs.{needs}
 use Rattle.station.proofs.judge.refused.Statement.{statement}

@@ -1,3 +1,4 @@
+-- `station::judge::sets_kept` meets its contract: the rule, from what each call ensures. Assumes nothing.
 use borrow.Author.Needs.{needs}
 use Rattle.station.proofs.judge.sets_kept.Statement.{statement}
 use Rattle.station.proofs.judge.sets_kept.Tie as tie

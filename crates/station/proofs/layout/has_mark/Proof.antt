@@ -1,3 +1,4 @@
+-- `station::layout::has_mark` meets its contract: the rule, from what each call ensures. Assumes nothing.
 use borrow.Author.Needs.{needs}
 use Rattle.station.proofs.layout.has_mark.Statement.{statement}
 use Rattle.station.proofs.layout.has_mark.Tie as tie

@@ -1,3 +1,4 @@
+-- `station::layout::header_code` meets its contract: the rule, from what each call ensures. Assumes nothing.
 use Rattle.station.specs.Layout.{headerNumber}
 use borrow.Author.Needs.{needs}
 use Rattle.station.proofs.layout.header_code.Statement.{statement}

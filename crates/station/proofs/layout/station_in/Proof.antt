@@ -1,3 +1,4 @@
+-- `station::layout::station_in` meets its contract: the rule, from what each call ensures. Assumes nothing.
 use Rattle.station.specs.Layout.{stationIn}
 use borrow.Author.Needs.{needs}
 use Rattle.station.proofs.layout.station_in.Statement.{statement}

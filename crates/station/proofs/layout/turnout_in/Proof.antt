@@ -1,3 +1,4 @@
+-- `station::layout::turnout_in` meets its contract: the rule, from what each call ensures. Assumes nothing.
 use borrow.Author.Needs.{needs}
 use Rattle.station.proofs.layout.turnout_in.Statement.{statement}
 use Rattle.station.proofs.layout.turnout_in.Tie as tie

@@ -1,3 +1,4 @@
+-- `station::observe::no_routes` meets its contract: the rule, from what each call ensures. Assumes nothing.
 use borrow.Author.Needs.{needs}
 use Rattle.station.proofs.observe.no_routes.Statement.{statement}
 use Rattle.station.proofs.observe.no_routes.Tie as tie

@@ -1,3 +1,4 @@
+-- `zone::clearances::clamp_fits` meets its contract: each way out is a case of the rule. Assumes nothing.
 use borrow.Author.Tests.{eq-eqb, ne-eqb}
 use Rattle.zone.proofs.clearances.clamp_fits.Statement.{statement}
 use Rattle.zone.proofs.clearances.clamp_fits.Tie as tie

@@ -1,3 +1,4 @@
+-- `zone::clearances::clearance_fits` meets its contract: the rule, from what each call ensures. Assumes nothing.
 use Rattle.zone.specs.Clearance.{clearanceFits}
 use borrow.Author.Needs.{needs}
 use Rattle.zone.proofs.clearances.clearance_fits.Statement.{statement}

@@ -1,3 +1,4 @@
+-- `zone::clearances::drive_fits` meets its contract: each way out is a case of the rule. Assumes nothing.
 use borrow.Author.Tests.{le-leb, lt-leb}
 use Rattle.zone.proofs.clearances.drive_fits.Statement.{statement}
 use Rattle.zone.proofs.clearances.drive_fits.Tie as tie

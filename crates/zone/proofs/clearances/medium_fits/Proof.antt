@@ -1,3 +1,4 @@
+-- `zone::clearances::medium_fits` meets its contract: each way out is a case of the rule. Assumes nothing.
 use borrow.Author.Tests.{eq-eqb, ne-eqb}
 use Rattle.zone.proofs.clearances.medium_fits.Statement.{statement}
 use Rattle.zone.proofs.clearances.medium_fits.Tie as tie

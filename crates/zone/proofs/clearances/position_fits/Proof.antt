@@ -1,3 +1,4 @@
+-- `zone::clearances::position_fits` meets its contract: each way out is a case of the rule. Assumes nothing.
 use borrow.Author.Needs.{needs}
 use Rattle.zone.proofs.clearances.position_fits.Statement.{statement}
 use Rattle.zone.proofs.clearances.position_fits.Tie as tie

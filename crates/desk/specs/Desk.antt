@@ -1,0 +1,50 @@
+-- The desk: its zones, hearing a message, hearing bytes as a record. Document 01, 'Message record' and the order of all checks:
+-- 10, 11, 13, 12, 14, then those of the kind.
+use mathlib.Core.Bool.{cond, not, false}
+use mathlib.Core.List.{List}
+use Prim.Native.Nat.{ℕ}
+use lib.Dec.{eqb, ltb}
+use lib.ListN.{getD, set, replicate}
+use Rattle.station.specs.declared.Station.{Station}
+use Rattle.station.specs.Station.{zoneCount}
+use Rattle.message.specs.declared.Message.{Message}
+use Rattle.message.specs.Fields.{fieldNumber}
+use Rattle.message.specs.Record.{readRecord}
+use Rattle.zone.specs.declared.Zone.{Zone}
+use Rattle.zone.specs.declared.Work.the-variants.{NoWork}
+use Rattle.zone.specs.declared.Movement.the-variants.{NoMovement}
+use Rattle.zone.specs.declared.Answer.{Answer}
+use Rattle.zone.specs.Kinds.{heard, freshZone}
+use Rattle.desk.specs.declared.Desk.{Desk}
+use Rattle.desk.specs.declared.Applied.{Applied}
+
+-- "A fresh desk has no work and no movement in any zone, recorders working, times 0."
+unfoldable pub freshDesk : Desk
+freshDesk = record { zones = replicate 8 freshZone }
+
+-- what stands past the last zone
+abbrev pub noZone : Zone
+noZone = record { work = NoWork; movement = NoMovement; recorder = false; time = 0 }
+
+abbrev pub zoneAt : Desk → ℕ → Zone
+zoneAt d n = getD (d .zones) n noZone
+
+-- a refusal: "nothing altered"
+abbrev pub refusedBy : Desk → ℕ → Applied
+refusedBy d number = record { code = number; minutes = 0; desk = d }
+
+-- the desk with zone n as an answer leaves it
+abbrev pub putBack : Desk → ℕ → Answer → Applied
+putBack d n a = record { code = a .code; minutes = a .minutes; desk = record { zones = set (d .zones) n (a .zone) } }
+
+-- a message: 11, 13, 12, then by its zone
+unfoldable pub applied : Station → Desk → Message → Applied
+applied st d m =
+    cond (not (eqb (fieldNumber m) 0)) (refusedBy d (fieldNumber m))
+    (cond (not (ltb (m .zone) (zoneCount st))) (refusedBy d 12)
+    (putBack d (m .zone) (heard st (zoneAt d (m .zone)) m)))
+
+-- "A record is first read into a message, or refused (10, 11, 13, in that order); only then does the desk check 12, 14 and the rest."
+unfoldable pub appliedRecord : Station → Desk → List ℕ → Applied
+appliedRecord st d s =
+    cond (eqb (readRecord s .code) 0) (applied st d (readRecord s .message)) (refusedBy d (readRecord s .code))

@@ -1,0 +1,48 @@
+-- "Two questions change nothing."
+use mathlib.Core.Bool.{Bool, false, cond, not, _&&_}
+use Prim.Native.Nat.{ℕ}
+use lib.Dec.{ltb}
+use Rattle.sets.specs.Sets.{has, isEmpty, count, lowest}
+use Rattle.station.specs.declared.Station.{Station}
+use Rattle.station.specs.Station.{turnoutCount, zoneCount, zoneOf}
+use Rattle.zone.specs.declared.Zone.{Zone}
+use Rattle.zone.specs.declared.Regime.the-variants.{Held}
+use Rattle.zone.specs.Work.{openSet}
+use Rattle.zone.specs.Movement.{underTrain, lacking, regimeOf}
+use Rattle.desk.specs.declared.Desk.{Desk}
+use Rattle.desk.specs.declared.MovementAnswer.{MovementAnswer}
+use Rattle.desk.specs.declared.WorkAnswer.{WorkAnswer}
+use Rattle.desk.specs.Desk.{zoneAt}
+
+-- "The first is refused by 12, then 15, and returns held, 255 and 0"
+abbrev pub movementRefused : ℕ → MovementAnswer
+movementRefused number = record { code = number; regime = Held; lowest = 255; count = 0 }
+
+-- "the lowest-numbered turnout still lacking one (255 if none)"
+abbrev pub lowestOf : ℕ → ℕ
+lowestOf s = cond (isEmpty s) 255 (lowest s)
+
+-- "Movement (zone, train): the regime, the lowest-numbered turnout still lacking one, and how many lack one (255 and 0 if none)."
+abbrev pub movementIn : Station → Zone → ℕ → MovementAnswer
+movementIn st z train =
+    cond (not (underTrain (z .movement) train)) (movementRefused 15)
+    (record {
+      code = 0;
+      regime = regimeOf st (z .work) (z .movement);
+      lowest = lowestOf (lacking st (z .work) (z .movement));
+      count = count (lacking st (z .work) (z .movement));
+    })
+
+unfoldable pub movementAnswered : Station → Desk → ℕ → ℕ → MovementAnswer
+movementAnswered st d zone train =
+    cond (not (ltb zone (zoneCount st))) (movementRefused 12) (movementIn st (zoneAt d zone) train)
+
+-- "Work (turnout): yes if open to work, else no", refused "by 13 for a turnout not below P, and returns no". The house: a turnout
+-- whose zone is not below Z is not open.
+unfoldable pub workAnswered : Station → Desk → ℕ → WorkAnswer
+workAnswered st d n =
+    cond (not (ltb n (turnoutCount st))) (record { code = 13; yes = false })
+    (record {
+      code = 0;
+      yes = ltb (zoneOf st n) (zoneCount st) && has (openSet (zoneAt d (zoneOf st n) .work)) n;
+    })

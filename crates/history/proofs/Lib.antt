@@ -1,0 +1,10 @@
+pub mod Append
+pub mod More
+pub mod Checks
+pub mod Agrees
+pub mod Steps
+pub mod Hearing
+pub mod Runs
+pub mod Theorem
+pub mod StationK
+pub mod OtherDesks

@@ -1,0 +1,96 @@
+-- Document 01, 'History, for demand 3': "Over accepted messages of a zone, in order; a 1 or 10 names what its a holds, a 6 its d0."
+-- These definitions share nothing with the desk's rules but set membership and the station.
+use mathlib.Core.Bool.{Bool, true, false, cond, not, _&&_, _||_}
+use mathlib.Core.List.{List}
+use Prim.Native.Nat.{ℕ}
+use lib.Dec.{eqb}
+use Rattle.sets.specs.Sets.{has}
+use Rattle.station.specs.declared.Station.{Station}
+use Rattle.station.specs.Station.{theRoute, namedBy}
+use Rattle.message.specs.declared.Message.{Message}
+use Rattle.history.specs.Since.{Since, never, since, afterLast, afterFirst, any, anyThenNone}
+
+-- a message of kind k
+abbrev pub is : ℕ → Message → Bool
+is k m = eqb (m .kind) k
+
+-- a 6 naming the turnout
+abbrev pub clears : ℕ → Message → Bool
+clears t m = is 6 m && eqb (m .d0) t
+
+-- a 4 naming it in a or b
+abbrev pub opens : ℕ → Message → Bool
+opens t m = is 4 m && (has (m .a) t || has (m .b) t)
+
+-- a 10 naming the turnout, or an 11
+abbrev pub ends : ℕ → Message → Bool
+ends t m = is 10 m && has (m .a) t || is 11 m
+
+-- an 8 or a 9
+abbrev pub leaves : Message → Bool
+leaves m = is 8 m || is 9 m
+
+-- the last kind 1
+abbrev pub asking : List Message → Since
+asking H = afterLast (is 1) H
+
+-- the first 2 that follows it
+abbrev pub agreedAfter : Since → Since
+agreedAfter never = never
+agreedAfter (since q rest) = afterFirst (is 2) rest
+
+abbrev pub agreement : List Message → Since
+agreement H = agreedAfter (asking H)
+
+-- after the 2 nothing ended the work on the turnout
+abbrev pub lasting : ℕ → Since → Bool
+lasting t never = false
+lasting t (since g later) = not (any (ends t) later)
+
+-- the 1 names the turnout
+abbrev pub askedIn : ℕ → Since → Bool
+askedIn t never = false
+askedIn t (since q rest) = has (q .a) t
+
+-- "Under agreed work: the last kind 1 names the turnout, a 2 follows it, and after it no 10 naming the turnout and no 11."
+unfoldable pub underAgreedWork : ℕ → List Message → Bool
+underAgreedWork t H = askedIn t (asking H) && lasting t (agreement H)
+
+-- after the 2 a 4 naming the turnout, and no 6 naming it after that 4
+abbrev pub opened : ℕ → Since → Bool
+opened t never = false
+opened t (since g later) = anyThenNone (opens t) (clears t) later
+
+-- "Open to work: under agreed work, with a 4 naming it in a or b after that 2 and no 6 naming it after that 4."
+unfoldable pub openToWork : ℕ → List Message → Bool
+openToWork t H = underAgreedWork t H && opened t (agreement H)
+
+-- the 5 with no 8 or 9 after it
+abbrev pub unlessLeft : Since → Since
+unlessLeft never = never
+unlessLeft (since f rest) = cond (any leaves rest) never (since f rest)
+
+-- "Standing: the last 5 has no 8 or 9 after it."
+unfoldable pub standing : List Message → Since
+standing H = unlessLeft (afterLast (is 5) H)
+
+abbrev pub clearedAfter : ℕ → Since → Bool
+clearedAfter t never = false
+clearedAfter t (since f rest) = any (clears t) rest
+
+-- "Cleared: in a standing movement, a 6 naming the turnout after that 5."
+unfoldable pub cleared : ℕ → List Message → Bool
+cleared t H = clearedAfter t (standing H)
+
+-- "Of its route: named by the route in that 5's d0."
+abbrev pub ofItsRoute : Station → Message → ℕ → Bool
+ofItsRoute st f t = has (namedBy (theRoute st (f .d0))) t
+
+-- "Clearance for that train, in the route's position, all efficient: after that 5 a 6 naming the turnout, with the same id, d2 1 if in
+-- the route's reverse and else 0, declaration 1 or 2."
+abbrev pub clearsWell : Station → Message → ℕ → Message → Bool
+clearsWell st f t m =
+    clears t m
+    && eqb (m .id) (f .id)
+    && eqb (m .d2) (cond (has (theRoute st (f .d0) .reverse) t) 1 0)
+    && (eqb (m .d1) 1 || eqb (m .d1) 2)

@@ -1,0 +1,4 @@
+pub mod Since
+pub mod History
+pub mod Lists
+pub mod Demand3

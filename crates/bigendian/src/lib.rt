@@ -1,12 +1,11 @@
 // Big-endian numbers of 16, 32 and 64 bits at any place of a buffer. Every function is total: a byte past the end reads as 0
 // and is not stored. The rules are in specs/BigEndian.antt, the laws over the width in proofs/.
 ghost use mathlib.Core.Path.{_≡_};
-ghost use lib.ListN.{getD, set};
-ghost use Rattle.bigendian.specs.BigEndian.{numberAt, storedAt};
+ghost use Rattle.bigendian.specs.BigEndian.{byteAt, withByte, numberAt, storedAt};
 
 // The byte at an index; 0 past the end.
 pub fn get8(s: &[u8], at: usize) -> u8
-    ensures { λ r. ⌜ r ≡ getD (now (s .entry)) at 0 ⌝ }
+    ensures { λ r. ⌜ r ≡ byteAt (now (s .entry)) at ⌝ }
 {
     if at < s.len() {
         return s[at];
@@ -49,7 +48,7 @@ pub fn get64(s: &[u8], at: usize) -> u64
 
 // Stores a byte at an index; past the end nothing is stored.
 pub fn put8(s: &mut [u8], at: usize, n: u8)
-    ensures { λ r. ⌜ now (s .exit) ≡ set (now (s .entry)) at n ⌝ }
+    ensures { λ r. ⌜ now (s .exit) ≡ withByte (now (s .entry)) at n ⌝ }
 {
     if at < s.len() {
         s[at] = n;

@@ -1,12 +1,6 @@
 // The tests of document 01's table of kinds that look at more than one thing. The rules are in the crate zone, specs/Kinds.antt.
 ghost use mathlib.Core.Path.{_≡_};
-ghost use mathlib.Core.Bool.{_&&_, not};
-ghost use lib.Dec.{eqb};
-ghost use Rattle.sets.specs.Sets.{has, isEmpty, overlaps};
-ghost use Rattle.zone.specs.Work.{manner, workSet};
-ghost use Rattle.zone.specs.Movement.{clearedSet, namedTurnouts, workedTurnouts, regimeOf, orderRefused, routeFor};
-ghost use Rattle.zone.specs.Clearance.{clearanceFits};
-ghost use Rattle.zone.specs.Kinds.{noWorkUnder, noMovementUnder, badRequest, badDetection, badRoute, badPart};
+ghost use Rattle.zone.specs.Kinds.{noWorkUnder, noMovementUnder, badRequest, badDetection, badRoute, badPart, inTheWay, clearedAmong, deviceUnderVerbal, isCleared, notWorked, misfits, orderForbidden};
 use message::Message;
 use station::Station;
 use zone::Movement;
@@ -75,49 +69,49 @@ pub fn bad_part(st: Station, set: u64, a: u64) -> bool
 
 // 19: whether a standing movement names a turnout of the set.
 pub fn names_of(st: Station, v: Movement, s: u64) -> bool
-    ensures { λ r. ⌜ r ≡ overlaps (namedTurnouts st v) s ⌝ }
+    ensures { λ r. ⌜ r ≡ inTheWay st v s ⌝ }
 {
     sets::overlap(named_turnouts(st, v), s)
 }
 
 // 19 of detection off: a cleared turnout in a or b.
 pub fn cleared_among(v: Movement, s: u64) -> bool
-    ensures { λ r. ⌜ r ≡ overlaps (clearedSet v) s ⌝ }
+    ensures { λ r. ⌜ r ≡ clearedAmong v s ⌝ }
 {
     sets::overlap(cleared_set(v), s)
 }
 
 // 22 of detection off: a portable device under a verbal request.
 pub fn device_under_verbal(w: Work, b: u64) -> bool
-    ensures { λ r. ⌜ r ≡ (not (isEmpty b) && eqb (manner w) 2) ⌝ }
+    ensures { λ r. ⌜ r ≡ deviceUnderVerbal w b ⌝ }
 {
     !sets::is_empty(b) & (manner_of(w) == 2)
 }
 
 // 16 of a clearance: the turnout is cleared already.
 pub fn is_cleared(v: Movement, n: u8) -> bool
-    ensures { λ r. ⌜ r ≡ has (clearedSet v) n ⌝ }
+    ensures { λ r. ⌜ r ≡ isCleared v n ⌝ }
 {
     sets::contains(cleared_set(v), n as usize)
 }
 
 // 17 of a clearance: the turnout is not under agreed work or not named.
 pub fn not_worked(st: Station, w: Work, v: Movement, n: u8) -> bool
-    ensures { λ r. ⌜ r ≡ not (has (workedTurnouts st w v) n) ⌝ }
+    ensures { λ r. ⌜ r ≡ notWorked st w v n ⌝ }
 {
     !sets::contains(worked_turnouts(st, w, v), n as usize)
 }
 
 // 20: the clearance does not fit its turnout.
 pub fn misfit(st: Station, v: Movement, m: Message) -> bool
-    ensures { λ r. ⌜ r ≡ not (clearanceFits st (routeFor st v) m) ⌝ }
+    ensures { λ r. ⌜ r ≡ misfits st v m ⌝ }
 {
     !clearance_fits(st, route_for(st, v), m)
 }
 
 // 22 of an order: the regime forbids it.
 pub fn order_forbidden(st: Station, w: Work, v: Movement, order: u8) -> bool
-    ensures { λ r. ⌜ r ≡ orderRefused order (regimeOf st w v) ⌝ }
+    ensures { λ r. ⌜ r ≡ orderForbidden st w v order ⌝ }
 {
     order_refused(order, regime(st, w, v))
 }

@@ -22,7 +22,7 @@ use Rattle.zone.specs.Kinds.{row, workAfter, movementAfter, recorderAfter, minu
 use Rattle.desk.specs.Desk.{freshDesk, applied, appliedRecord}
 use Rattle.desk.specs.Questions.{workAnswered}
 use Rattle.history.specs.Since.{Since, never, since, afterLast, afterFirst, any, anyThenNone}
-use Rattle.history.specs.History.{underAgreedWork, openToWork, standing, cleared, clearsWell}
+use Rattle.history.specs.History.{underAgreedWork, openToWork, standing, cleared, ofItsRoute, clearsWell}
 use Rattle.history.specs.Lists.{Input, message, bytes, Reply, after, answers, accepted, ofZone}
 use Rattle.history.specs.Demand3.{ours}
 
@@ -54,9 +54,14 @@ naming kind time id a b d0 =
     record { kind = kind; zone = 0; time = time; id = id; a = a; b = b; d0 = d0; d1 = 0; d2 = 0; d3 = 0; d4 = 0; d5 = 0 }
 
 -- a clearance: turnout, declaration, clamp, medium, in the normal position
-abbrev clearing : ℕ → ℕ → ℕ → ℕ → ℕ → ℕ → Message
+abbrev pub clearing : ℕ → ℕ → ℕ → ℕ → ℕ → ℕ → Message
 clearing time train turnout declaration clamp medium =
     record { kind = 6; zone = 0; time = time; id = train; a = 0; b = 0; d0 = turnout; d1 = declaration; d2 = 0; d3 = clamp; d4 = medium; d5 = 0 }
+
+-- the good clearance of turnout 0 for train 512, but in the reverse position
+abbrev reversed : Message
+reversed =
+    record { kind = 6; zone = 0; time = 115; id = 512; a = 0; b = 0; d0 = 0; d1 = 1; d2 = 1; d3 = 0; d4 = 1; d5 = 0 }
 
 -- "Records, all zone 0: 1 (t 0, id 7, M.45, {0,1}); 2 (t 90); 4 (t 100, a {0,1}); 5 (t 110, train 512, route 0); 7 clear (t 111); 6 (t 115,
 -- turnout 0, declaration 3, normal, 0, voice); 7 clear (t 116); 7 danger (t 117); 11 (t 118); 8 (t 130); 11 (t 209)."
@@ -121,6 +126,7 @@ pub record Cases : Type 0 where
   pub one-end : answersK (naming 1 0 7 1 0 1 ∷ []) ≡ reply 17 0 ∷ []
   pub both-ends : answersK (naming 1 0 7 3 0 1 ∷ []) ≡ reply 0 0 ∷ []
   pub turnout-3 : answersK (naming 1 0 7 8 0 1 ∷ []) ≡ reply 17 0 ∷ []
+  pub turnout-3-too : answersK (naming 1 0 7 11 0 1 ∷ []) ≡ reply 17 0 ∷ []
   -- "{2} agreed under verbal, b {2}: 22; a {2}: 0."
   pub verbal-b : answersK (verbal ++ (naming 4 20 9 0 4 0 ∷ [])) ≡ reply 0 0 ∷ reply 0 0 ∷ reply 22 0 ∷ []
   pub verbal-a : answersK (verbal ++ (naming 4 20 9 4 0 0 ∷ [])) ≡ reply 0 0 ∷ reply 0 0 ∷ reply 0 0 ∷ []
@@ -141,7 +147,7 @@ pub record Cases : Type 0 where
   pub signal-1 : Verdicts.judged 1 1 2 ≡ record { code = 0; verdict = 3 }
   pub signal-2 : Verdicts.judged 1 2 2 ≡ record { code = 0; verdict = 2 }
   pub line-2 : Verdicts.judged 2 1 2 ≡ record { code = 0; verdict = 5 }
-  -- the history's words, each true once and false once, after records 3, 6, 8 and 10
+  -- the history's words, each true once and false once, after records 3, 6, 8, 10 and 11
   pub under-3 : map (λ (t : ℕ). underAgreedWork t (storyK 3)) (0 ∷ 1 ∷ 2 ∷ []) ≡ true ∷ true ∷ false ∷ []
   pub under-11 : map (λ (t : ℕ). underAgreedWork t (storyK 11)) (0 ∷ 1 ∷ 2 ∷ []) ≡ false ∷ false ∷ false ∷ []
   pub story-open-3 : map (λ (t : ℕ). openToWork t (storyK 3)) (0 ∷ 1 ∷ 2 ∷ []) ≡ true ∷ true ∷ false ∷ []
@@ -154,10 +160,13 @@ pub record Cases : Type 0 where
   pub cleared-3 : cleared 0 (storyK 3) ≡ false
   pub cleared-6 : map (λ (t : ℕ). cleared t (storyK 6)) (0 ∷ 1 ∷ 2 ∷ []) ≡ true ∷ false ∷ false ∷ []
   pub cleared-10 : cleared 0 (storyK 10) ≡ false
-  -- a clearance with declaration 3 is no good one; with declaration 1 it is, but not for another train
+  -- route 0 names turnouts 0 and 2
+  pub of-route : map (ofItsRoute stationK (naming 5 110 512 0 0 0)) (0 ∷ 1 ∷ 2 ∷ 3 ∷ []) ≡ true ∷ false ∷ true ∷ false ∷ []
+  -- a clearance with declaration 3 is no good one; with declaration 1 it is, but not for another train or in another position
   pub not-well : any (clearsWell stationK (naming 5 110 512 0 0 0) 0) (clearing 115 512 0 3 0 1 ∷ []) ≡ false
   pub well : any (clearsWell stationK (naming 5 110 512 0 0 0) 0) (clearing 115 512 0 1 0 1 ∷ []) ≡ true
   pub other-train : any (clearsWell stationK (naming 5 110 512 0 0 0) 0) (clearing 115 513 0 1 0 1 ∷ []) ≡ false
+  pub other-position : any (clearsWell stationK (naming 5 110 512 0 0 0) 0) (reversed ∷ []) ≡ false
 
 pub station-k : Cases
 unfolding readSheet headerNumber stationIn places valuesFrom judged badTurnout badRoute goodTurnout goodRoute firstFrom allFrom tied tiedWith has single after answers accepted ofZone applied appliedRecord readRecord decoded headBytes encoded named fieldsKept fieldNumber heard answered row workAfter movementAfter recorderAfter minutesFor minutesBetween zoneAfter zoneTurnouts setOf splits theRoute regimeOf clearanceFits freshDesk workAnswered underAgreedWork openToWork standing cleared afterLast afterFirst any anyThenNone Verdicts.judged
@@ -171,6 +180,7 @@ station-k = record {
   one-end = refl;
   both-ends = refl;
   turnout-3 = refl;
+  turnout-3-too = refl;
   verbal-b = refl;
   verbal-a = refl;
   declaration-3 = refl;
@@ -197,7 +207,9 @@ station-k = record {
   cleared-3 = refl;
   cleared-6 = refl;
   cleared-10 = refl;
+  of-route = refl;
   not-well = refl;
   well = refl;
   other-train = refl;
+  other-position = refl;
 }

@@ -10,6 +10,10 @@ use Rattle.station.specs.declared.Turnout.{Turnout}
 use Rattle.station.specs.declared.Route.{Route}
 use Rattle.station.specs.declared.Station.{Station}
 
+-- the number of a check whose test holds, else what the checks after it give
+abbrev pub numberIf : Bool → ℕ → ℕ → ℕ
+numberIf test number rest = cond test number rest
+
 abbrev pub emptyTurnout : Turnout
 emptyTurnout = record { zone = 0; partner = 0; drive = 0 }
 

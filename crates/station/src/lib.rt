@@ -2,10 +2,10 @@
 // routes and zones. The rules are in specs/: Layout.antt has the bytes, Sheet.antt judging and reading, Station.antt what the
 // desk asks of a station. Every function takes any station value, also one that no sheet gave.
 ghost use mathlib.Core.Path.{_≡_};
-ghost use mathlib.Core.Bool.{cond};
 ghost use Rattle.station.specs.Sheet.{readSheet};
 ghost use Rattle.station.specs.Station.{
   emptyRoute,
+  numberIf,
   turnoutCount,
   routeCount,
   zoneCount,
@@ -162,7 +162,7 @@ pub fn route_none() -> Route
 
 // The code where a test holds, else the rest of the answer.
 pub fn first_code(test: bool, code: u8, rest: u8) -> u8
-    ensures { λ r. ⌜ r ≡ cond test code rest ⌝ }
+    ensures { λ r. ⌜ r ≡ numberIf test code rest ⌝ }
 {
     if test { code } else { rest }
 }

@@ -56,16 +56,44 @@ badRoute st zone route = not (ltb route (routeCount st)) || not (eqb (theRoute s
 abbrev pub badPart : Station → ℕ → ℕ → Bool
 badPart st set a = isEmpty a || not (within a set) || eqb a set || splits st a
 
+-- "a standing movement names a turnout of the work (2, 11) or of a (10)"
+abbrev pub inTheWay : Station → Movement → ℕ → Bool
+inTheWay st v s = overlaps (namedTurnouts st v) s
+
+-- "a cleared turnout in a or b"
+abbrev pub clearedAmong : Movement → ℕ → Bool
+clearedAmong v s = overlaps (clearedSet v) s
+
+-- "b not empty under verbal"
+abbrev pub deviceUnderVerbal : Work → ℕ → Bool
+deviceUnderVerbal w b = not (isEmpty b) && eqb (manner w) 2
+
+-- "cleared already"
+abbrev pub isCleared : Movement → ℕ → Bool
+isCleared v n = has (clearedSet v) n
+
+-- "not under agreed work or not named"
+abbrev pub notWorked : Station → Work → Movement → ℕ → Bool
+notWorked st w v n = not (has (workedTurnouts st w v) n)
+
+-- a clearance that does not fit
+abbrev pub misfits : Station → Movement → Message → Bool
+misfits st v m = not (clearanceFits st (routeFor st v) m)
+
+-- an order that the regime forbids
+abbrev pub orderForbidden : Station → Work → Movement → ℕ → Bool
+orderForbidden st w v order = orderRefused order (regimeOf st w v)
+
 -- 1 work asked: "16 work in zone; 17 .."
 abbrev pub row1 : Row
 row1 st z m = (hasWork (z .work) gives 16) ∷ (badRequest st (m .zone) (m .a) gives 17) ∷ []
 
--- 2 agreed: "15; 18 agreed already; 19" - "a standing movement names a turnout of the work"
+-- 2 agreed: "15; 18 agreed already; 19"
 abbrev pub row2 : Row
 row2 st z m =
     (noWorkUnder z m gives 15)
     ∷ (isAgreed (z .work) gives 18)
-    ∷ (overlaps (namedTurnouts st (z .movement)) (workSet (z .work)) gives 19)
+    ∷ (inTheWay st (z .movement) (workSet (z .work)) gives 19)
     ∷ []
 
 -- 3 withdrawn: "15; 18 agreed"
@@ -78,8 +106,8 @@ row4 st z m =
     (noWorkUnder z m gives 15)
     ∷ (badDetection (workSet (z .work)) (m .a) (m .b) gives 17)
     ∷ (not (isAgreed (z .work)) gives 18)
-    ∷ (overlaps (clearedSet (z .movement)) (union (m .a) (m .b)) gives 19)
-    ∷ (not (isEmpty (m .b)) && eqb (manner (z .work)) 2 gives 22)
+    ∷ (clearedAmong (z .movement) (union (m .a) (m .b)) gives 19)
+    ∷ (deviceUnderVerbal (z .work) (m .b) gives 22)
     ∷ []
 
 -- 5 movement asked: "16 movement in zone; 17 .."
@@ -90,9 +118,9 @@ row5 st z m = (isStanding (z .movement) gives 16) ∷ (badRoute st (m .zone) (m 
 abbrev pub row6 : Row
 row6 st z m =
     (noMovementUnder z m gives 15)
-    ∷ (has (clearedSet (z .movement)) (m .d0) gives 16)
-    ∷ (not (has (workedTurnouts st (z .work) (z .movement)) (m .d0)) gives 17)
-    ∷ (not (clearanceFits st (routeFor st (z .movement)) m) gives 20)
+    ∷ (isCleared (z .movement) (m .d0) gives 16)
+    ∷ (notWorked st (z .work) (z .movement) (m .d0) gives 17)
+    ∷ (misfits st (z .movement) m gives 20)
     ∷ (not (mediumFits (z .recorder) (m .d4)) gives 21)
     ∷ []
 
@@ -101,7 +129,7 @@ abbrev pub row7 : Row
 row7 st z m =
     (noMovementUnder z m gives 15)
     ∷ (isOrdered (z .movement) gives 18)
-    ∷ (orderRefused (m .d0) (regimeOf st (z .work) (z .movement)) gives 22)
+    ∷ (orderForbidden st (z .work) (z .movement) (m .d0) gives 22)
     ∷ []
 
 -- 8 passed: "15; 18 not ordered"
@@ -112,13 +140,13 @@ row8 st z m = (noMovementUnder z m gives 15) ∷ (not (isOrdered (z .movement)) 
 abbrev pub row9 : Row
 row9 st z m = (noMovementUnder z m gives 15) ∷ (isOrdered (z .movement) gives 18) ∷ []
 
--- 10 part restored: "15; 17 ..; 18 not agreed; 19; 22 under M.45 (2.13)" - 19: "a standing movement names a turnout of a"
+-- 10 part restored: "15; 17 ..; 18 not agreed; 19; 22 under M.45 (2.13)"
 abbrev pub row10 : Row
 row10 st z m =
     (noWorkUnder z m gives 15)
     ∷ (badPart st (workSet (z .work)) (m .a) gives 17)
     ∷ (not (isAgreed (z .work)) gives 18)
-    ∷ (overlaps (namedTurnouts st (z .movement)) (m .a) gives 19)
+    ∷ (inTheWay st (z .movement) (m .a) gives 19)
     ∷ (eqb (manner (z .work)) 1 gives 22)
     ∷ []
 
@@ -127,14 +155,14 @@ abbrev pub row11 : Row
 row11 st z m =
     (noWorkUnder z m gives 15)
     ∷ (not (isAgreed (z .work)) gives 18)
-    ∷ (overlaps (namedTurnouts st (z .movement)) (workSet (z .work)) gives 19)
+    ∷ (inTheWay st (z .movement) (workSet (z .work)) gives 19)
     ∷ []
 
 -- 12 recorder: no check
 abbrev pub row12 : Row
 row12 st z m = []
 
--- "11: kind not 1-12"
+-- 11, "kind not 1-12"
 abbrev pub noKind : Row
 noKind st z m = (true gives 11) ∷ []
 
@@ -212,7 +240,7 @@ settled z number minutes next =
 unfoldable pub answered : ℕ → Station → Zone → Message → Answer
 answered kind st z m = settled z (first (row kind st z m)) (minutesFor kind (z .work) m) (zoneAfter kind z m)
 
--- "14: time before the zone's last accepted", then the checks of the message's kind
+-- a message heard by its zone, after 11, 13 and 12: 14, "time before the zone's last accepted", then the checks of its kind
 unfoldable pub heard : Station → Zone → Message → Answer
 heard st z m =
     cond (ltb (m .time) (z .time)) (record { code = 14; minutes = 0; zone = z }) (answered (m .kind) st z m)

@@ -16,7 +16,7 @@ use Rattle.sets.proofs.Members.{within-member, within-all, empty-all}
 use Rattle.message.specs.declared.Message.{Message}
 use Rattle.station.specs.declared.Station.{Station}
 use Rattle.station.specs.Station.{turnoutCount, zoneCount, zoneOf, theRoute, namedBy}
-use Rattle.station.specs.Sheet.{readSheet}
+use Rattle.sheet.specs.Sheet.{readSheet}
 use Rattle.zone.specs.declared.Work.{Work}
 use Rattle.zone.specs.declared.Work.the-variants.{NoWork, Asked, Agreed}
 use Rattle.zone.specs.declared.Movement.{Movement}

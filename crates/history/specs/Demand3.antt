@@ -8,7 +8,7 @@ use Prim.Native.Nat.{ℕ}
 use Rattle.message.specs.declared.Message.{Message}
 use Rattle.message.specs.Record.{readRecord}
 use Rattle.station.specs.declared.Station.{Station}
-use Rattle.station.specs.Sheet.{readSheet}
+use Rattle.sheet.specs.Sheet.{readSheet}
 use Rattle.zone.specs.declared.Regime.the-variants.{Clear}
 use Rattle.desk.specs.declared.Desk.{Desk}
 use Rattle.desk.specs.declared.Applied.{Applied}

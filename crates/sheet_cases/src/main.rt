@@ -1,5 +1,5 @@
 // Tries the reader of station sheets (document 01, 'Station sheet') on worked sheets. The reader is proved to follow the rules in the
-// station crate's specs/; what this program writes shows that these rules accept and refuse the sheets that the document does.
+// sheet crate's specs/; what this program writes shows that these rules accept and refuse the sheets that the document does.
 // The cases are in stdin and the expected lines in stdout, written from the document; no expected number stands here.
 //
 // A line of the input that starts with # is a remark; an empty line ends the input. Any other line starts with a name and a number.
@@ -45,7 +45,7 @@ fn put_pairs(s: &mut [u8], input: &[u8], at: usize) -> usize {
 
 // Writes what reading a sheet gives.
 fn write_reading(s: &[u8], base: u16) {
-    let r = station::read_sheet(s);
+    let r = sheet::read_sheet(s);
     if base == 5 {
         write_number(stations::sum(r.station));
         return;

@@ -129,6 +129,6 @@ pub fn put_base(s: &mut [u8], base: u16) {
 pub fn station_k() -> station::Station {
     let mut s = [0u8; 50];
     put_k(&mut s);
-    let r = station::read_sheet(&s);
+    let r = sheet::read_sheet(&s);
     r.station
 }

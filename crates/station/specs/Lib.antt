@@ -1,3 +1,1 @@
 pub mod Station
-pub mod Layout
-pub mod Sheet

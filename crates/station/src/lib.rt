@@ -1,8 +1,6 @@
-// Stations and their sheets (document 01, 'Station sheet'): the reader of a sheet, and what a station says of its turnouts,
-// routes and zones. The rules are in specs/: Layout.antt has the bytes, Sheet.antt judging and reading, Station.antt what the
-// desk asks of a station. Every function takes any station value, also one that no sheet gave.
+// Stations (document 01, 'Station sheet'): what a station says of its turnouts, routes and zones. The rules are in
+// specs/Station.antt. Every function takes any station value, also one that no sheet gave. The crate `sheet` reads a station.
 ghost use mathlib.Core.Path.{_≡_};
-ghost use Rattle.station.specs.Sheet.{readSheet};
 ghost use Rattle.station.specs.Station.{
   emptyRoute,
   numberIf,
@@ -18,9 +16,7 @@ ghost use Rattle.station.specs.Station.{
   splits,
 };
 
-mod judge;
-mod layout;
-mod observe;
+pub mod observe;
 
 // The limits of a station.
 pub const TURNOUTS: usize = 64;
@@ -28,19 +24,6 @@ pub const TURNOUTS: usize = 64;
 pub const ROUTES: usize = 64;
 
 pub const ZONES: usize = 8;
-
-// The numbers that refuse a sheet.
-pub const BAD_LENGTH: u8 = 1;
-
-pub const BAD_MARK: u8 = 2;
-
-pub const BAD_VERSION: u8 = 3;
-
-pub const BAD_COUNTS: u8 = 4;
-
-pub const BAD_TURNOUT: u8 = 5;
-
-pub const BAD_ROUTE: u8 = 6;
 
 // A turnout: its zone, the other end of its crossover (255 for none), its drive (0 electric, 1 hand with key lock).
 pub struct Turnout {
@@ -65,25 +48,6 @@ pub struct Station {
     pub zones: u8,
     pub turnout: [Turnout; 64],
     pub route: [Route; 64],
-}
-
-// What reading a sheet gives: 0 and the station; or the number that refuses it, the index of the record for 5 and 6 (else
-// 0), and the station that is 0 throughout.
-pub struct Sheet {
-    pub code: u8,
-    pub index: u8,
-    pub station: Station,
-}
-
-// Reads a sheet.
-pub fn read_sheet(s: &[u8]) -> Sheet
-    ensures { λ r. ⌜ r ≡ readSheet (now (s .entry)) ⌝ }
-{
-    let code = layout::header_code(s);
-    if code != 0 {
-        return judge::refused(code, 0);
-    }
-    judge::judge(layout::station_in(s))
 }
 
 // How many turnouts, at most 64.

@@ -1,0 +1,181 @@
+-- What an accepted sheet guarantees of its station: document 01, 'Station sheet', sentence by sentence.
+-- Assumes nothing.
+use mathlib.Core.Bool.{Bool, true, false, cond, not, _||_}
+use mathlib.Core.Logic.{_≢_, _⊎_, inl, inr}
+use mathlib.Core.Path.{_≡_, refl, ap, _∙_}
+use mathlib.Core.List.{List}
+use Prim.Native.Nat.{ℕ, _≤_, _<_}
+use native.Mathlib.Omega.{arith}
+use borrow.Author.Tests.{eqb-true, eqb-false, leb-true, ltb-true, ltb-false, not-true, not-false}
+use lib.Dec.{eqb, ltb, leb}
+use lib.ListN.{length}
+use Rattle.sets.specs.Range.{firstFrom}
+use Rattle.sets.proofs.Ranges.{none-below}
+use Rattle.station.specs.declared.Station.{Station}
+use Rattle.sheet.specs.declared.Sheet.{Sheet}
+use Rattle.station.specs.Station.{emptyTurnout, emptyRoute, turnoutAt, routeAt, turnoutCount, routeCount, zoneCount, zoneOf, driveOf}
+use Rattle.sheet.specs.Layout.{hasMark, version, countP, countR, countZ, countsKept, sheetLength, headerNumber, turnoutIn, turnoutPlace, routeIn, routePlace, stationIn}
+use Rattle.sheet.specs.Sheet.{partnerKept, goodTurnout, goodRoute, badTurnout, badRoute, refusedSheet, acceptedSheet, judged, readSheet}
+use Rattle.sheet.proofs.Joined.{three, five, either}
+use Rattle.sheet.proofs.Places.{places-past}
+use Rattle.sheet.proofs.AcceptedRoute.{good-route}
+pub use Rattle.sheet.proofs.AcceptedRoute.{GoodRoute}
+
+-- "counts P of turnouts (1 to 64), R of routes (0 to 64), Z of zones (1 to 8)"
+pub record GoodCounts (st : Station) : Type 0 where
+  pub some-turnout : 1 ≤ st .turnouts
+  pub turnouts-limit : st .turnouts ≤ 64
+  pub routes-limit : st .routes ≤ 64
+  pub some-zone : 1 ≤ st .zones
+  pub zones-limit : st .zones ≤ 8
+
+-- turnout n is an end of a crossover
+pub record Crossover (st : Station) (n : ℕ) : Type 0 where
+  -- "A partner is below P, ..
+  pub below : turnoutAt st n .partner < st .turnouts
+  -- .. not itself, ..
+  pub other : turnoutAt st n .partner ≢ n
+  -- .. names it back, ..
+  pub back : turnoutAt st (turnoutAt st n .partner) .partner ≡ n
+  -- .. and has the same zone ..
+  pub same-zone : zoneOf st (turnoutAt st n .partner) ≡ zoneOf st n
+  -- .. and drive."
+  pub same-drive : driveOf st (turnoutAt st n .partner) ≡ driveOf st n
+
+-- what document 01 asks of turnout n
+pub record GoodTurnout (st : Station) (n : ℕ) : Type 0 where
+  -- "zone (below Z)"
+  pub zone : zoneOf st n < st .zones
+  -- "drive (0 electric, 1 hand with key lock)"
+  pub drive : driveOf st n ≤ 1
+  -- "partner (the other end of a crossover, or 255 for none)"
+  pub partner : (turnoutAt st n .partner ≡ 255) ⊎ Crossover st n
+
+-- all that document 01 asks of a station
+pub record Accepted (st : Station) : Type 0 where
+  pub counts : GoodCounts st
+  pub turnout : (n : ℕ) → n < st .turnouts → GoodTurnout st n
+  pub route : (r : ℕ) → r < st .routes → GoodRoute st r
+  -- "Records past P and R are 0 in the station."
+  pub past-turnouts : (n : ℕ) → st .turnouts ≤ n → turnoutAt st n ≡ emptyTurnout
+  pub past-routes : (r : ℕ) → st .routes ≤ r → routeAt st r ≡ emptyRoute
+
+-- a station whose counts are in range, so that the tests read them as they stand
+module _ (st : Station) (counts : GoodCounts st) where
+  crossover :
+      (n : ℕ) → partnerKept (turnoutCount st) n (turnoutAt st n) (turnoutAt st (turnoutAt st n .partner)) ≡ true → Crossover st n
+  crossover n h =
+      let t = turnoutAt st n in
+      let o = turnoutAt st (t .partner) in
+      let below = ltb (t .partner) (turnoutCount st) in
+      let itself = eqb (t .partner) n in
+      let kept = five below (not itself) (eqb (o .partner) n) (eqb (o .zone) (t .zone)) (eqb (o .drive) (t .drive)) h in
+      record {
+        below = omega (arith, ltb-true (t .partner) (turnoutCount st) (kept .0));
+        other = eqb-false (t .partner) n (not-true itself (kept .1));
+        back = eqb-true (o .partner) n (kept .2);
+        same-zone = eqb-true (o .zone) (t .zone) (kept .3);
+        same-drive = eqb-true (o .drive) (t .drive) (kept .4);
+      }
+
+  good-turnout : (n : ℕ) → goodTurnout st n ≡ true → GoodTurnout st n
+  unfolding goodTurnout
+  good-turnout n h =
+      let t = turnoutAt st n in
+      let alone = eqb (t .partner) 255 in
+      let paired = partnerKept (turnoutCount st) n t (turnoutAt st (t .partner)) in
+      let kept = three (ltb (t .zone) (zoneCount st)) (leb (t .drive) 1) (alone || paired) h in
+      record {
+        zone = omega (arith, ltb-true (t .zone) (zoneCount st) (kept .0));
+        drive = leb-true (t .drive) 1 (kept .1);
+        partner = elim (either alone paired (kept .2)) [ inl e ↦ inl (eqb-true (t .partner) 255 e) | inr e ↦ inr (crossover n e) ];
+      }
+
+-- a header without a fault has counts in range
+good-counts : (s : List ℕ) → headerNumber s ≡ 0 → GoodCounts (stationIn s)
+unfolding headerNumber stationIn
+good-counts s h =
+    let p = countP s in
+    let r = countR s in
+    let z = countZ s in
+    let later : ℕ = cond (not (eqb (length s) (sheetLength p r))) 1 0 in
+    let in-range = go (ltb (length s) 8) (hasMark s) (eqb (version s) 1) (countsKept p r z) later h in
+    let kept = five (leb 1 p) (leb p 64) (leb r 64) (leb 1 z) (leb z 8) in-range in
+    record {
+      some-turnout = leb-true 1 p (kept .0);
+      turnouts-limit = leb-true p 64 (kept .1);
+      routes-limit = leb-true r 64 (kept .2);
+      some-zone = leb-true 1 z (kept .3);
+      zones-limit = leb-true z 8 (kept .4);
+    }
+  where
+    go : (a b c d : Bool) (later : ℕ) → cond a 1 (cond (not b) 2 (cond (not c) 3 (cond (not d) 4 later))) ≡ 0 → d ≡ true
+    go a b c true later h = refl
+    go true b c false later h = cc
+    go false false c false later h = cc
+    go false true false false later h = cc
+    go false true true false later h = cc
+
+-- where no bad one is found below k, each is good
+none-bad : (good : ℕ → Bool) (k : ℕ) → ltb (firstFrom (λ n. not (good n)) 0 k) k ≡ false → (n : ℕ) → n < k → good n ≡ true
+none-bad good k h n l =
+    let past = ltb-false (firstFrom (λ n. not (good n)) 0 k) k h in
+    not-false (good n) (none-below (λ n. not (good n)) k past n l)
+
+-- where the answer is no refusal, the test for one fails
+unrefused : (b : Bool) (r x : Sheet) → r .code ≢ 0 → cond b r x .code ≡ 0 → (b ≡ false) × (cond b r x ≡ x)
+unrefused true r x refusal h = absurd (refusal h)
+unrefused false r x refusal h = (refl, refl)
+
+-- a station judged without a refusal: the answer, and no bad record among those counted
+passed :
+    (st : Station) → judged st .code ≡ 0 →
+    (judged st ≡ acceptedSheet st)
+    × ((n : ℕ) → n < turnoutCount st → goodTurnout st n ≡ true)
+    × ((r : ℕ) → r < routeCount st → goodRoute st r ≡ true)
+unfolding judged badTurnout badRoute
+passed st h =
+    let bad-turnout = ltb (badTurnout st) (turnoutCount st) in
+    let bad-route = ltb (badRoute st) (routeCount st) in
+    let refused = refusedSheet 6 (badRoute st) in
+    let later = cond bad-route refused (acceptedSheet st) in
+    let turnouts = unrefused bad-turnout (refusedSheet 5 (badTurnout st)) later (λ e. omega arith) h in
+    let routes = unrefused bad-route refused (acceptedSheet st) (λ e. omega arith) (rw (turnouts .1) at h) in (
+      turnouts .1 ∙ routes .1,
+      none-bad (goodTurnout st) (turnoutCount st) (turnouts .0),
+      none-bad (goodRoute st) (routeCount st) (routes .0),
+    )
+
+module _ (s : List ℕ) (code-zero : readSheet s .code ≡ 0) where
+  -- no fault in the header, and the answer is the judgement of the station in the bytes
+  headed : (headerNumber s ≡ 0) × (readSheet s ≡ judged (stationIn s))
+  unfolding readSheet
+  headed = go (eqb (headerNumber s) 0) refl code-zero
+    where
+      go :
+          (b : Bool) → eqb (headerNumber s) 0 ≡ b → cond b (judged (stationIn s)) (refusedSheet (headerNumber s) 0) .code ≡ 0 →
+          (headerNumber s ≡ 0) × (cond b (judged (stationIn s)) (refusedSheet (headerNumber s) 0) ≡ judged (stationIn s))
+      go true e h = (eqb-true (headerNumber s) 0 e, refl)
+      go false e h = absurd (eqb-false (headerNumber s) 0 e h)
+
+  no-refusal : judged (stationIn s) .code ≡ 0
+  no-refusal = rw (headed .1) at code-zero
+
+  -- the station of an accepted sheet is the one in its bytes
+  pub station-of : readSheet s .station ≡ stationIn s
+  station-of = ap (λ (x : Sheet). x .station) (headed .1 ∙ passed (stationIn s) no-refusal .0)
+
+  -- the station of an accepted sheet has all that document 01 asks of a station
+  pub accepted : Accepted (readSheet s .station)
+  unfolding stationIn
+  accepted =
+      let st = stationIn s in
+      let counts = good-counts s (headed .0) in
+      let judgement = passed st no-refusal in
+      rw station-of record {
+        counts = counts;
+        turnout = λ n l. good-turnout st counts n (judgement .1 n (omega arith));
+        route = λ r l. good-route st (counts .turnouts-limit) r (judgement .2 r (omega arith));
+        past-turnouts = places-past (λ i. turnoutIn s (turnoutPlace i)) (countP s) emptyTurnout;
+        past-routes = places-past (λ i. routeIn s (routePlace (countP s) i)) (countR s) emptyRoute;
+      }

@@ -1,0 +1,147 @@
+-- `sheet::judge::first_bad_route` meets its contract: both invariants say that what is still to be found is the answer; the label leaves both loops with the index. Assumes nothing.
+use mathlib.Core.Path.{_≡_, sym, ap, _∙_}
+use mathlib.Core.Bool.{Bool, true, false, not, _&&_}
+use Prim.Native.Nat.{ℕ, _-_, _≤_, min}
+use native.Mathlib.Nat.{sub-zero}
+use native.Mathlib.Omega.{arith}
+use borrow.Author.Tests.{not-true, not-false}
+use Rattle.sets.specs.Range.{allFrom, firstFrom}
+use Rattle.sets.proofs.Ranges.{all-next, all-end, first-next, first-end}
+use Rattle.station.specs.declared.Station.{Station}
+use Rattle.station.specs.declared.Route.{Route}
+use Rattle.station.specs.Station.{turnoutAt, routeAt, turnoutCount, routeCount, tied, tiedWith}
+use Rattle.sheet.specs.Sheet.{setsKept, memberKept, goodRoute, badRoute}
+use borrow.Author.Needs.{needs}
+use Rattle.sheet.proofs.judge.first_bad_route.Statement.{statement}
+use Rattle.sheet.proofs.judge.first_bad_route.Tie as tie
+
+-- turnout k is as the route r wants it
+abbrev test : ℕ → Station → Route → ℕ → Bool
+test p st r k = memberKept r k (turnoutAt st k) (tiedWith p k (turnoutAt st k .partner))
+
+-- route i is bad, its sets being judged against m turnouts
+abbrev badFor : ℕ → ℕ → Station → ℕ → Bool
+badFor m p st i = not (setsKept m (routeAt st i) && allFrom (test p st (routeAt st i)) 0 p)
+
+abbrev bad : ℕ → Station → ℕ → Bool
+bad p = badFor (min p 64) p
+
+abbrev Inv-loop : tie.InvT-loop
+Inv-loop st p n i r k₀ k = (k ≤ p) × (allFrom (test p st r) 0 p ≡ allFrom (test p st r) k (p - k))
+
+abbrev μ-loop : tie.MeasureT-loop
+μ-loop st p n i r k₀ k = p - k
+
+abbrev Inv-routes : tie.InvT-routes
+Inv-routes st p n i₀ i = (i ≤ n) × (firstFrom (bad p st) 0 n ≡ firstFrom (bad p st) i (n - i))
+
+abbrev μ-routes : tie.MeasureT-routes
+μ-routes st p n i₀ i = n - i
+
+-- the rule, by the numbers that the code has
+found : (st : Station) (p n : ℕ) → p ≡ turnoutCount st → n ≡ routeCount st → badRoute st ≡ firstFrom (bad p st) 0 n
+unfolding badRoute goodRoute tied
+found st p n ep en =
+    let limit : turnoutCount st ≡ min p 64 = omega arith in
+    ap (λ (m : ℕ). firstFrom (badFor m (turnoutCount st) st) 0 (routeCount st)) limit ∙ rw (ep, en)
+
+-- what the test of a turnout says
+tested : (c : tie.After-member-kept Inv-loop μ-loop Inv-routes μ-routes) → c .member-kept .result ≡ test (c .before .before .before .before .before .before .before .before .before .before .before .turnout-count .result) (c .before .before .before .before .before .before .before .before .before .before .before .before .args .t1) (routeAt (c .before .before .before .before .before .before .before .before .before .before .before .before .args .t1) (c .before .before .before .before .before .before .before .before .before .routes .i)) (c .before .before .before .before .loop .k)
+tested c = rw (c .member-kept .ensures, c .before .tied-with .ensures)
+
+routes-holds : tie.Need-routes-holds Inv-loop μ-loop Inv-routes μ-routes
+routes-holds c =
+    (search needs, rw sub-zero)
+
+loop-holds : tie.Need-loop-holds Inv-loop μ-loop Inv-routes μ-routes
+loop-holds c =
+    (search needs, rw sub-zero)
+
+loop-again : tie.Need-loop-again Inv-loop μ-loop Inv-routes μ-routes
+loop-again c =
+    let st = c .before .before .before .before .before .before .before .before .before .before .before .before .before .args .t1 in
+    let p = c .before .before .before .before .before .before .before .before .before .before .before .before .turnout-count .result in
+    let n = c .before .before .before .before .before .before .before .before .before .before .before .route-count .result in
+    let i = c .before .before .before .before .before .before .before .before .before .before .routes .i in
+    let inv = c .before .before .before .before .before .before .before .before .before .before .routes .inv in
+    let k = c .before .before .before .before .before .loop .k in
+    let passes : test p st (routeAt st i) k ≡ true = sym (tested (c .before)) ∙ not-false (c .before .member-kept .result) (c .if2 .left) in
+    (search needs, c .before .before .before .before .before .loop .inv .1 ∙ all-next (test p st (routeAt st i)) k p (c .before .before .before .before .loop-test .taken) ∙ rw passes)
+
+routes-again : tie.Need-routes-again Inv-loop μ-loop Inv-routes μ-routes
+routes-again c =
+    let st = c .before .before .before .before .before .before .before .before .before .args .t1 in
+    let p = c .before .before .before .before .before .before .before .before .turnout-count .result in
+    let n = c .before .before .before .before .before .before .before .route-count .result in
+    let i = c .before .before .before .before .before .before .routes .i in
+    let inv = c .before .before .before .before .before .before .routes .inv in
+    let k = c .before .loop .k in
+    let sets = sym (c .before .before .before .sets-kept .ensures) ∙ not-false (c .before .before .before .sets-kept .result) (c .before .before .if1 .left) in
+    let ended : k ≡ p = omega arith in
+    let all = c .before .loop .inv .1 ∙ ap (λ (j : ℕ). allFrom (test p st (routeAt st i)) j (p - j)) ended ∙ all-end (test p st (routeAt st i)) p in
+    let good : bad p st i ≡ false = rw (sets, all) in
+    (search needs, inv .1 ∙ first-next (bad p st) i n (c .before .before .before .before .before .routes-test .taken) ∙ rw good)
+
+returns : tie.Need-returns Inv-loop μ-loop Inv-routes μ-routes
+returns c =
+    let st = c .before .before .before .before .args .t1 in
+    let p = c .before .before .before .turnout-count .result in
+    let n = c .before .before .route-count .result in
+    let i = c .before .routes .i in
+    let inv = c .before .routes .inv in
+    let ended : i ≡ n = omega arith in
+    ended ∙ sym (found st p n (c .before .before .before .turnout-count .ensures) (c .before .before .route-count .ensures) ∙ inv .1 ∙ ap (λ (j : ℕ). firstFrom (bad p st) j (n - j)) ended ∙ first-end (bad p st) n)
+
+returns-2 : tie.Need-returns-2 Inv-loop μ-loop Inv-routes μ-routes
+returns-2 c =
+    let st = c .before .before .before .before .before .before .before .args .t1 in
+    let p = c .before .before .before .before .before .before .turnout-count .result in
+    let n = c .before .before .before .before .before .route-count .result in
+    let i = c .before .before .before .before .routes .i in
+    let inv = c .before .before .before .before .routes .inv in
+    let sets = sym (c .before .sets-kept .ensures) ∙ not-true (c .before .sets-kept .result) (c .if1 .taken) in
+    let now-bad : bad p st i ≡ true = rw sets in
+    sym (found st p n (c .before .before .before .before .before .before .turnout-count .ensures) (c .before .before .before .before .before .route-count .ensures) ∙ inv .1 ∙ first-next (bad p st) i n (c .before .before .before .routes-test .taken) ∙ rw now-bad)
+
+returns-3 : tie.Need-returns-3 Inv-loop μ-loop Inv-routes μ-routes
+returns-3 c =
+    let st = c .before .before .before .before .before .before .before .before .before .before .before .before .before .args .t1 in
+    let p = c .before .before .before .before .before .before .before .before .before .before .before .before .turnout-count .result in
+    let n = c .before .before .before .before .before .before .before .before .before .before .before .route-count .result in
+    let i = c .before .before .before .before .before .before .before .before .before .before .routes .i in
+    let inv = c .before .before .before .before .before .before .before .before .before .before .routes .inv in
+    let k = c .before .before .before .before .before .loop .k in
+    let sets = sym (c .before .before .before .before .before .before .before .sets-kept .ensures) ∙ not-false (c .before .before .before .before .before .before .before .sets-kept .result) (c .before .before .before .before .before .before .if1 .left) in
+    let fails : test p st (routeAt st i) k ≡ false = sym (tested (c .before)) ∙ not-true (c .before .member-kept .result) (c .if2 .taken) in
+    let some = c .before .before .before .before .before .loop .inv .1 ∙ all-next (test p st (routeAt st i)) k p (c .before .before .before .before .loop-test .taken) in
+    let now-bad : bad p st i ≡ true = rw (sets, some, fails) in
+    sym (found st p n (c .before .before .before .before .before .before .before .before .before .before .before .before .turnout-count .ensures) (c .before .before .before .before .before .before .before .before .before .before .before .route-count .ensures) ∙ inv .1 ∙ first-next (bad p st) i n (c .before .before .before .before .before .before .before .before .before .routes-test .taken) ∙ rw now-bad)
+
+pub first-bad-route-spec : {M : Type 1} → statement M
+first-bad-route-spec =
+    tie.close
+    (tie.spec
+    Inv-loop
+    μ-loop
+    Inv-routes
+    μ-routes
+    (λ c κs. search needs)
+    (λ c κs. search needs)
+    routes-holds
+    (λ c. search needs)
+    (λ c. search needs)
+    (λ c κs. search needs)
+    loop-holds
+    (λ c. search needs)
+    (λ c. search needs)
+    (λ c κs. search needs)
+    (λ c κs. search needs)
+    (λ c. search needs)
+    (λ c. search needs)
+    loop-again
+    (λ c. search needs)
+    (λ c. search needs)
+    routes-again
+    returns
+    returns-2
+    returns-3)

@@ -1,0 +1,11 @@
+-- `sheet::judge::turnout_kept` meets its contract: the rule, from what each call ensures. Assumes nothing.
+use borrow.Author.Needs.{needs}
+use Rattle.sheet.proofs.judge.turnout_kept.Statement.{statement}
+use Rattle.sheet.proofs.judge.turnout_kept.Tie as tie
+
+returns : tie.Need-returns
+returns c =
+    rw (c .partner-kept .ensures)
+
+pub turnout-kept-spec : {M : Type 1} → statement M
+turnout-kept-spec = tie.close (tie.spec (λ c. search needs) (λ c κs. search needs) returns)

@@ -1,0 +1,64 @@
+-- `sheet::layout::routes_in` meets its contract: the invariant is the table filled so far. Assumes nothing.
+use mathlib.Core.Path.{_≡_, sym, ap, ap₂, _∙_}
+use mathlib.Core.List.{List}
+use Prim.Native.Nat.{ℕ, _-_, _≤_, _<_, min}
+use native.Mathlib.Omega.{arith}
+use denote.Ref.{now}
+use lib.ListN.{set}
+use Rattle.station.specs.declared.Route.{Route}
+use Rattle.sheet.proofs.Places.{places-none, places-next, places-limit}
+use Rattle.sheet.specs.Layout.{places, routeIn, routePlace}
+use Rattle.station.specs.Station.{emptyRoute}
+use borrow.Author.Needs.{needs}
+use Rattle.sheet.proofs.layout.routes_in.Statement.{statement}
+use Rattle.sheet.proofs.layout.routes_in.Tie as tie
+
+-- record j of the sheet
+abbrev sheetRoute : List ℕ → ℕ → ℕ → Route
+sheetRoute s p j = routeIn s (routePlace p j)
+
+abbrev Inv-loop : tie.InvT-loop
+Inv-loop s p r first n rs₀ i₀ rs i = (i ≤ n) × (rs ≡ places (sheetRoute s p) i emptyRoute)
+
+abbrev μ-loop : tie.MeasureT-loop
+μ-loop s p r first n rs₀ i₀ rs i = n - i
+
+loop-holds : tie.Need-loop-holds Inv-loop μ-loop
+loop-holds c =
+    (search needs, c .no-routes .ensures ∙ sym (places-none (sheetRoute (now (c .before .before .before .args .s)) (c .before .before .before .args .p)) emptyRoute))
+
+loop-again : tie.Need-loop-again Inv-loop μ-loop
+loop-again c =
+    let f = sheetRoute (now (c .before .before .before .before .before .before .args .s)) (c .before .before .before .before .before .before .args .p) in
+    let i = c .before .before .loop .i in
+    let inv = c .before .before .loop .inv in
+    let inside : i < 64 = omega arith in
+    (search needs, ap₂ (λ (l : List Route) (r : Route). set l i r) (inv .1) (c .route-in .ensures) ∙ places-next f i emptyRoute inside)
+
+returns : tie.Need-returns Inv-loop μ-loop
+returns c =
+    let f = sheetRoute (now (c .before .before .before .before .before .args .s)) (c .before .before .before .before .before .args .p) in
+    let inv = c .before .loop .inv in
+    let all : c .before .loop .i ≡ min (c .before .before .before .before .before .args .r) 64 = omega arith in
+    inv .1 ∙ ap (λ (m : ℕ). places f m emptyRoute) all ∙ places-limit f (c .before .before .before .before .before .args .r) emptyRoute
+
+pub routes-in-spec : {M : Type 1} → statement M
+routes-in-spec =
+    tie.close
+    (tie.spec
+    Inv-loop
+    μ-loop
+    (λ c. search needs)
+    (λ c. search needs)
+    (λ c κs. search needs)
+    (λ c κs. search needs)
+    loop-holds
+    (λ c. search needs)
+    (λ c. search needs)
+    (λ c κs. search needs)
+    (λ c. search needs)
+    (λ c. search needs)
+    (λ c. search needs)
+    (λ c. search needs)
+    loop-again
+    returns)

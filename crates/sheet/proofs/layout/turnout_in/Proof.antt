@@ -1,0 +1,16 @@
+-- `sheet::layout::turnout_in` meets its contract: the rule, from what each call ensures. Assumes nothing.
+use borrow.Author.Needs.{needs}
+use Rattle.sheet.proofs.layout.turnout_in.Statement.{statement}
+use Rattle.sheet.proofs.layout.turnout_in.Tie as tie
+
+returns : tie.Need-returns
+returns c =
+    rw (
+      c .get83 .ensures,
+      c .before .get82 .ensures,
+      c .before .before .get8 .ensures,
+    )
+
+pub turnout-in-spec : {M : Type 1} → statement M
+turnout-in-spec =
+    tie.close (tie.spec (λ c κs. search needs) (λ c. search needs) (λ c κs. search needs) (λ c. search needs) (λ c κs. search needs) returns)

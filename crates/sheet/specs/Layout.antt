@@ -1,0 +1,85 @@
+-- The bytes of a station sheet: document 01, 'Station sheet'.
+use mathlib.Core.Bool.{Bool, cond, not, _&&_}
+use mathlib.Core.List.{List, [], _∷_}
+use Prim.Native.Nat.{ℕ, zero, suc, _+_, _*_}
+use lib.Dec.{eqb, ltb, leb}
+use lib.ListN.{length, getD}
+use Rattle.bigendian.specs.BigEndian.{numberAt}
+use Rattle.station.specs.declared.Turnout.{Turnout}
+use Rattle.station.specs.declared.Route.{Route}
+use Rattle.station.specs.declared.Station.{Station}
+use Rattle.station.specs.Station.{emptyTurnout, emptyRoute}
+
+-- "Header, 8 bytes: the letters SPT, version (16 bits, 1), counts P of turnouts, R of routes, Z of zones, a byte each"
+abbrev pub hasMark : List ℕ → Bool
+hasMark s = eqb (getD s 0 0) 83 && eqb (getD s 1 0) 80 && eqb (getD s 2 0) 84
+
+abbrev pub version : List ℕ → ℕ
+version s = numberAt 2 s 3
+
+abbrev pub countP : List ℕ → ℕ
+countP s = getD s 5 0
+
+abbrev pub countR : List ℕ → ℕ
+countR s = getD s 6 0
+
+abbrev pub countZ : List ℕ → ℕ
+countZ s = getD s 7 0
+
+-- "P of turnouts (1 to 64), R of routes (0 to 64), Z of zones (1 to 8)"
+abbrev pub countsKept : ℕ → ℕ → ℕ → Bool
+countsKept p r z = leb 1 p && leb p 64 && leb r 64 && leb 1 z && leb z 8
+
+-- "The length is exactly 8 + 3P + 33R."
+abbrev pub sheetLength : ℕ → ℕ → ℕ
+sheetLength p r = 8 + 3 * p + 33 * r
+
+-- "Order: under 8 bytes, mark, version, counts (zone byte included), length": the number of the first that fails, else 0
+unfoldable pub headerNumber : List ℕ → ℕ
+headerNumber s =
+    cond (ltb (length s) 8) 1
+    (cond (not (hasMark s)) 2
+    (cond (not (eqb (version s) 1)) 3
+    (cond (not (countsKept (countP s) (countR s) (countZ s))) 4
+    (cond (not (eqb (length s) (sheetLength (countP s) (countR s)))) 1
+    0))))
+
+-- "turnout records of 3 bytes: zone; partner; drive": the record at an index
+abbrev pub turnoutIn : List ℕ → ℕ → Turnout
+turnoutIn s at = record { zone = getD s at 0; partner = getD s (at + 1) 0; drive = getD s (at + 2) 0 }
+
+-- "routes of 33 bytes: zone, then the sets run over, flank, exit zone, reverse": the record at an index
+abbrev pub routeIn : List ℕ → ℕ → Route
+routeIn s at = record {
+  zone = getD s at 0;
+  over = numberAt 8 s (at + 1);
+  flank = numberAt 8 s (at + 9);
+  exits = numberAt 8 s (at + 17);
+  reverse = numberAt 8 s (at + 25);
+}
+
+abbrev pub turnoutPlace : ℕ → ℕ
+turnoutPlace n = 8 + 3 * n
+
+abbrev pub routePlace : ℕ → ℕ → ℕ
+routePlace p n = 8 + 3 * p + 33 * n
+
+-- the k values of f from i on
+unfoldable pub valuesFrom : {A : Type 0} → (ℕ → A) → ℕ → ℕ → List A
+valuesFrom f i zero = []
+valuesFrom f i (suc k) = f i ∷ valuesFrom f (i + 1) k
+
+-- 64 places: f at each place below n, and e at the others
+unfoldable pub places : {A : Type 0} → (ℕ → A) → ℕ → A → List A
+unfolding valuesFrom
+places f n e = valuesFrom (λ i. cond (ltb i n) (f i) e) 0 64
+
+-- the station that stands in the bytes; "Records past P and R are 0 in the station."
+unfoldable pub stationIn : List ℕ → Station
+stationIn s = record {
+  turnouts = countP s;
+  routes = countR s;
+  zones = countZ s;
+  turnout = places (λ i. turnoutIn s (turnoutPlace i)) (countP s) emptyTurnout;
+  route = places (λ i. routeIn s (routePlace (countP s) i)) (countR s) emptyRoute;
+}

@@ -1,0 +1,79 @@
+-- Judging a station and reading a sheet: document 01, 'Station sheet'.
+use mathlib.Core.Bool.{Bool, cond, not, _&&_, _||_}
+use mathlib.Core.List.{List}
+use Prim.Native.Nat.{ℕ, _^_, _-_}
+use lib.Dec.{eqb, ltb, leb}
+use lib.Bits.{bitAnd}
+use Rattle.sets.specs.Range.{firstFrom, allFrom}
+use Rattle.sets.specs.Sets.{has, isEmpty, overlaps, within}
+use Rattle.station.specs.declared.Turnout.{Turnout}
+use Rattle.station.specs.declared.Route.{Route}
+use Rattle.station.specs.declared.Station.{Station}
+use Rattle.sheet.specs.declared.Sheet.{Sheet}
+use Rattle.station.specs.Station.{emptyStation, turnoutAt, routeAt, turnoutCount, routeCount, zoneCount, tied, namedBy, whole}
+use Rattle.sheet.specs.Layout.{headerNumber, stationIn}
+
+-- "A partner is below P, not itself, names it back, and has the same zone and drive": of turnout n, its record t and its
+-- partner's record o
+abbrev pub partnerKept : ℕ → ℕ → Turnout → Turnout → Bool
+partnerKept p n t o =
+    ltb (t .partner) p && not (eqb (t .partner) n) && eqb (o .partner) n && eqb (o .zone) (t .zone) && eqb (o .drive) (t .drive)
+
+-- "zone (below Z); partner (the other end of a crossover, or 255 for none); drive (0 electric, 1 hand with key lock)"
+abbrev pub turnoutKept : ℕ → ℕ → ℕ → Turnout → Turnout → Bool
+turnoutKept p z n t o = ltb (t .zone) z && leb (t .drive) 1 && (eqb (t .partner) 255 || partnerKept p n t o)
+
+unfoldable pub goodTurnout : Station → ℕ → Bool
+goodTurnout st n =
+    turnoutKept (turnoutCount st) (zoneCount st) n (turnoutAt st n) (turnoutAt st (turnoutAt st n .partner))
+
+-- the turnouts below p, all of them
+abbrev pub allTurnouts : ℕ → ℕ
+allTurnouts p = 2 ^ p - 1
+
+-- "The first three are pairwise disjoint; their union .. lies among the P turnouts ..; run over is not empty; reverse lies
+-- within the union."
+abbrev pub setsKept : ℕ → Route → Bool
+setsKept p r =
+    not (overlaps (r .over) (r .flank)) && not (overlaps (r .over) (r .exits)) && not (overlaps (r .flank) (r .exits))
+    && within (namedBy r) (allTurnouts p)
+    && not (isEmpty (r .over))
+    && within (r .reverse) (namedBy r)
+
+-- What a route asks of turnout n, its record t and the group tied to it: a named turnout is in the route's zone; "A flank
+-- turnout's partner is flank too (Art. 3.24)"; "Both ends of a crossover, if named, have the same position".
+abbrev pub memberKept : Route → ℕ → Turnout → ℕ → Bool
+memberKept r n t group =
+    (not (has (namedBy r) n) || eqb (t .zone) (r .zone))
+    && (not (has (r .flank) n) || within group (r .flank))
+    && whole (bitAnd group (namedBy r)) (r .reverse)
+
+unfoldable pub goodRoute : Station → ℕ → Bool
+goodRoute st n =
+    let r = routeAt st n in
+    setsKept (turnoutCount st) r && allFrom (λ t. memberKept r t (turnoutAt st t) (tied st t)) 0 (turnoutCount st)
+
+-- "the first bad record ends the reading": its index, or the count where all are good
+unfoldable pub badTurnout : Station → ℕ
+badTurnout st = firstFrom (λ n. not (goodTurnout st n)) 0 (turnoutCount st)
+
+unfoldable pub badRoute : Station → ℕ
+badRoute st = firstFrom (λ n. not (goodRoute st n)) 0 (routeCount st)
+
+-- "1, 2, 3, 4 .. 5, 6, with record index from 0 (else 0)": "empty station, every number 0"
+abbrev pub refusedSheet : ℕ → ℕ → Sheet
+refusedSheet number place = record { code = number; index = place; station = emptyStation }
+
+abbrev pub acceptedSheet : Station → Sheet
+acceptedSheet st = record { code = 0; index = 0; station = st }
+
+-- ".. turnouts, routes": a station whose counts are in range, or the number and index of its first bad record
+unfoldable pub judged : Station → Sheet
+judged st =
+    cond (ltb (badTurnout st) (turnoutCount st)) (refusedSheet 5 (badTurnout st))
+    (cond (ltb (badRoute st) (routeCount st)) (refusedSheet 6 (badRoute st))
+    (acceptedSheet st))
+
+-- the answer to any bytes as a sheet
+unfoldable pub readSheet : List ℕ → Sheet
+readSheet s = cond (eqb (headerNumber s) 0) (judged (stationIn s)) (refusedSheet (headerNumber s) 0)

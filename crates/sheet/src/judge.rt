@@ -1,0 +1,157 @@
+// Judging a station whose counts are in range: the first bad turnout, then the first bad route.
+ghost use mathlib.Core.Path.{_≡_};
+ghost use Rattle.sheet.specs.Sheet.{
+  turnoutKept,
+  partnerKept,
+  allTurnouts,
+  setsKept,
+  memberKept,
+  badTurnout,
+  badRoute,
+  refusedSheet,
+  judged,
+};
+ghost use Prim.Native.Nat.{min};
+use super::BAD_ROUTE;
+use super::BAD_TURNOUT;
+use super::Sheet;
+use station::Route;
+use station::Station;
+use station::Turnout;
+use station::names;
+use station::observe::is_whole;
+use station::observe::no_routes;
+use station::observe::no_turnouts;
+use station::observe::record_of;
+use station::observe::tied_with;
+use station::route_count;
+use station::turnout_count;
+use station::zone_count;
+
+// Whether turnout n, with the record t, and its partner's record o are two ends of a crossover.
+fn partner_kept(p: usize, n: usize, t: Turnout, o: Turnout) -> bool
+    ensures { λ r. ⌜ r ≡ partnerKept p n t o ⌝ }
+{
+    let other = t.partner as usize;
+    let back = o.partner as usize;
+    (other < p) & (other != n) & (back == n) & (o.zone == t.zone) & (o.drive == t.drive)
+}
+
+// Whether the record t of turnout n is good, o being its partner's.
+fn turnout_kept(p: usize, z: usize, n: usize, t: Turnout, o: Turnout) -> bool
+    ensures { λ r. ⌜ r ≡ turnoutKept p z n t o ⌝ }
+{
+    let zone = t.zone as usize;
+    (zone < z) & (t.drive <= 1) & ((t.partner == 255) | partner_kept(p, n, t, o))
+}
+
+// The index of the first bad turnout; the count if all are good.
+fn first_bad_turnout(st: Station) -> usize
+    ensures { λ r. ⌜ r ≡ badTurnout st ⌝ }
+{
+    let p = turnout_count(st);
+    let z = zone_count(st);
+    let ts = st.turnout;
+    let mut i: usize = 0;
+    while i < p {
+        let t = ts[i];
+        if !turnout_kept(p, z, i, t, record_of(ts, t.partner as usize)) {
+            return i;
+        }
+        i += 1;
+    }
+    p
+}
+
+// The set of the first p turnouts.
+fn all_turnouts(p: usize) -> u64
+    ensures { λ r. ⌜ r ≡ allTurnouts (min p 64) ⌝ }
+{
+    if p < 64 {
+        return sets::only(p) - 1;
+    }
+    18446744073709551615
+}
+
+// Whether the sets of a route are disjoint, among the p turnouts, not empty and within each other as they must be.
+fn sets_kept(p: usize, r: Route) -> bool
+    ensures { λ b. ⌜ b ≡ setsKept (min p 64) r ⌝ }
+{
+    !sets::overlap(r.over, r.flank)
+        & !sets::overlap(r.over, r.exits)
+        & !sets::overlap(r.flank, r.exits)
+        & sets::is_within(names(r), all_turnouts(p))
+        & !sets::is_empty(r.over)
+        & sets::is_within(r.reverse, names(r))
+}
+
+// Whether turnout n, its record t and the turnouts tied to it are as the route r wants them.
+fn member_kept(r: Route, n: usize, t: Turnout, group: u64) -> bool
+    ensures { λ b. ⌜ b ≡ memberKept r n t group ⌝ }
+{
+    let named = names(r);
+    (!sets::contains(named, n) | (t.zone == r.zone))
+        & (!sets::contains(r.flank, n) | sets::is_within(group, r.flank))
+        & is_whole(group & named, r.reverse)
+}
+
+// The index of the first bad route; the count if all are good.
+fn first_bad_route(st: Station) -> usize
+    ensures { λ b. ⌜ b ≡ badRoute st ⌝ }
+{
+    let p = turnout_count(st);
+    let n = route_count(st);
+    let mut i: usize = 0;
+    'routes: while i < n {
+        let r = st.route[i];
+        if !sets_kept(p, r) {
+            break 'routes;
+        }
+        let mut k: usize = 0;
+        while k < p {
+            let t = st.turnout[k];
+            if !member_kept(r, k, t, tied_with(p, k, t.partner)) {
+                break 'routes;
+            }
+            k += 1;
+        }
+        i += 1;
+    }
+    i
+}
+
+// The answer that refuses a sheet.
+pub fn refused(code: u8, index: u8) -> Sheet
+    ensures { λ r. ⌜ r ≡ refusedSheet code index ⌝ }
+{
+    Sheet {
+        code,
+        index,
+        station: Station {
+            turnouts: 0,
+            routes: 0,
+            zones: 0,
+            turnout: no_turnouts(),
+            route: no_routes(),
+        },
+    }
+}
+
+// The station, or the number and index of its first bad record.
+pub fn judge(st: Station) -> Sheet
+    ensures { λ r. ⌜ r ≡ judged st ⌝ }
+{
+    let t = first_bad_turnout(st);
+    if t < turnout_count(st) {
+        return refused(BAD_TURNOUT, t as u8);
+    }
+    let r = first_bad_route(st);
+    if r < route_count(st) {
+        return refused(BAD_ROUTE, r as u8);
+    }
+    Sheet {
+        code: 0,
+        index: 0,
+        station: st,
+    }
+}

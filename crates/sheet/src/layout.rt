@@ -1,0 +1,134 @@
+// The bytes of a station sheet: its header's number, and the station that stands in them.
+ghost use mathlib.Core.Path.{_≡_};
+ghost use Prim.Native.Nat.{_<_};
+ghost use Rattle.sheet.specs.Layout.{
+  hasMark,
+  countsKept,
+  headerNumber,
+  turnoutIn,
+  routeIn,
+  turnoutPlace,
+  routePlace,
+  places,
+  stationIn,
+};
+ghost use Rattle.station.specs.Station.{emptyTurnout, emptyRoute};
+use super::BAD_COUNTS;
+use super::BAD_LENGTH;
+use super::BAD_MARK;
+use super::BAD_VERSION;
+use station::Route;
+use station::Station;
+use station::Turnout;
+use station::first_code;
+use station::observe::at_most_64;
+use station::observe::no_routes;
+use station::observe::no_turnouts;
+
+// The length of the header.
+const HEADER: usize = 8;
+
+// The letters SPT.
+fn has_mark(s: &[u8]) -> bool
+    ensures { λ r. ⌜ r ≡ hasMark (now (s .entry)) ⌝ }
+{
+    (bigendian::get8(s, 0) == b'S')
+        & (bigendian::get8(s, 1) == b'P')
+        & (bigendian::get8(s, 2) == b'T')
+}
+
+// Whether P, R and Z are in range.
+fn counts_kept(p: u8, r: u8, z: u8) -> bool
+    ensures { λ b. ⌜ b ≡ countsKept p r z ⌝ }
+{
+    (1 <= p) & (p <= 64) & (r <= 64) & (1 <= z) & (z <= 8)
+}
+
+// 0 if the header and the length are good, else the first number of 1, 2, 3, 4, 1 that fits.
+pub fn header_code(s: &[u8]) -> u8
+    ensures { λ r. ⌜ r ≡ headerNumber (now (s .entry)) ⌝ }
+{
+    let p = bigendian::get8(s, 5);
+    let r = bigendian::get8(s, 6);
+    let length = first_code(
+        s.len() != HEADER + 3 * (p as usize) + 33 * (r as usize),
+        BAD_LENGTH,
+        0,
+    );
+    let counts = first_code(
+        !counts_kept(p, r, bigendian::get8(s, 7)),
+        BAD_COUNTS,
+        length,
+    );
+    let version = first_code(bigendian::get16(s, 3) != 1, BAD_VERSION, counts);
+    let mark = first_code(!has_mark(s), BAD_MARK, version);
+    first_code(s.len() < HEADER, BAD_LENGTH, mark)
+}
+
+fn turnout_in(s: &[u8], at: usize) -> Turnout
+    requires { ⌜ at < 4096 ⌝ }
+    ensures { λ r. ⌜ r ≡ turnoutIn (now (s .entry)) at ⌝ }
+{
+    Turnout {
+        zone: bigendian::get8(s, at),
+        partner: bigendian::get8(s, at + 1),
+        drive: bigendian::get8(s, at + 2),
+    }
+}
+
+fn route_in(s: &[u8], at: usize) -> Route
+    requires { ⌜ at < 4096 ⌝ }
+    ensures { λ r. ⌜ r ≡ routeIn (now (s .entry)) at ⌝ }
+{
+    Route {
+        zone: bigendian::get8(s, at),
+        over: bigendian::get64(s, at + 1),
+        flank: bigendian::get64(s, at + 9),
+        exits: bigendian::get64(s, at + 17),
+        reverse: bigendian::get64(s, at + 25),
+    }
+}
+
+// The turnout records, those from p on 0.
+fn turnouts_in(s: &[u8], p: u8) -> [Turnout; 64]
+    ensures { λ r. ⌜ r ≡ places (λ i. turnoutIn (now (s .entry)) (turnoutPlace i)) p emptyTurnout ⌝ }
+{
+    let n = at_most_64(p);
+    let mut ts = no_turnouts();
+    let mut i: usize = 0;
+    while i < n {
+        ts[i] = turnout_in(s, HEADER + 3 * i);
+        i += 1;
+    }
+    ts
+}
+
+// The route records, those from r on 0.
+fn routes_in(s: &[u8], p: u8, r: u8) -> [Route; 64]
+    ensures { λ rs. ⌜ rs ≡ places (λ i. routeIn (now (s .entry)) (routePlace p i)) r emptyRoute ⌝ }
+{
+    let first = HEADER + 3 * (p as usize);
+    let n = at_most_64(r);
+    let mut rs = no_routes();
+    let mut i: usize = 0;
+    while i < n {
+        rs[i] = route_in(s, first + 33 * i);
+        i += 1;
+    }
+    rs
+}
+
+// The station that stands in the bytes.
+pub fn station_in(s: &[u8]) -> Station
+    ensures { λ r. ⌜ r ≡ stationIn (now (s .entry)) ⌝ }
+{
+    let p = bigendian::get8(s, 5);
+    let r = bigendian::get8(s, 6);
+    Station {
+        turnouts: p,
+        routes: r,
+        zones: bigendian::get8(s, 7),
+        turnout: turnouts_in(s, p),
+        route: routes_in(s, p, r),
+    }
+}

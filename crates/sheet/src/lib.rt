@@ -1,0 +1,39 @@
+// The reader of station sheets (document 01, 'Station sheet'). The rules are in specs/: Layout.antt has the bytes, Sheet.antt
+// judging and reading. proofs/Accepted.antt has what an accepted sheet guarantees of its station.
+ghost use mathlib.Core.Path.{_≡_};
+ghost use Rattle.sheet.specs.Sheet.{readSheet};
+
+mod judge;
+mod layout;
+
+// The numbers that refuse a sheet.
+pub const BAD_LENGTH: u8 = 1;
+
+pub const BAD_MARK: u8 = 2;
+
+pub const BAD_VERSION: u8 = 3;
+
+pub const BAD_COUNTS: u8 = 4;
+
+pub const BAD_TURNOUT: u8 = 5;
+
+pub const BAD_ROUTE: u8 = 6;
+
+// What reading a sheet gives: 0 and the station; or the number that refuses it, the index of the record for 5 and 6 (else
+// 0), and the station that is 0 throughout.
+pub struct Sheet {
+    pub code: u8,
+    pub index: u8,
+    pub station: station::Station,
+}
+
+// Reads a sheet.
+pub fn read_sheet(s: &[u8]) -> Sheet
+    ensures { λ r. ⌜ r ≡ readSheet (now (s .entry)) ⌝ }
+{
+    let code = layout::header_code(s);
+    if code != 0 {
+        return judge::refused(code, 0);
+    }
+    judge::judge(layout::station_in(s))
+}

@@ -57,13 +57,20 @@ stored-past (suc w) s at n past =
     let next : length s ≤ suc at = omega arith in
     ap (λ (l : List ℕ). storedAt w l (suc at) n) (set-out s at (n / 256 ^ w % 256) past) ∙ stored-past w s (suc at) n next
 
--- a store from j on leaves what stands before j
-getD-sets-before : (s : List ℕ) (i j : ℕ) (vs : List ℕ) → i < j → getD (sets s j vs) i 0 ≡ getD s i 0
+-- a run of stores from j on leaves what stands before j, and what stands after its last
+pub getD-sets-before : (s : List ℕ) (i j : ℕ) (vs : List ℕ) → i < j → getD (sets s j vs) i 0 ≡ getD s i 0
 getD-sets-before s i j [] before = refl
 getD-sets-before s i j (v ∷ vs) before =
     let other : i ≢ j = omega arith in
     let next : i < suc j = omega arith in
     getD-sets-before (set s j v) i (suc j) vs next ∙ getD-set-other s j i v 0 other
+
+pub getD-sets-after : (s : List ℕ) (i j : ℕ) (vs : List ℕ) → j + length vs ≤ i → getD (sets s j vs) i 0 ≡ getD s i 0
+getD-sets-after s i j [] after = refl
+getD-sets-after s i j (v ∷ vs) after =
+    let other : i ≢ j = omega arith in
+    let next : suc j + length vs ≤ i = omega arith in
+    getD-sets-after (set s j v) i (suc j) vs next ∙ getD-set-other s j i v 0 other
 
 bytesAt-sets : (s : List ℕ) (at : ℕ) (vs : List ℕ) → at + length vs ≤ length s → bytesAt (sets s at vs) at (length vs) ≡ vs
 bytesAt-sets s at [] fits = refl

@@ -96,11 +96,24 @@ refused-by s number e zero =
     let eleven : _≡_ {A = ℕ} 11 0 = sym (ap fieldNumber none) ∙ k .rules in
     omega arith
 
+-- an accepted record has 32 bytes, its message keeps the field rules, and the bytes of that message are the record
+pub accepted-length : (s : List ℕ) → readRecord s .code ≡ 0 → length s ≡ 32
+accepted-length s code = kept s code .whole
+
+pub accepted-rules : (s : List ℕ) → readRecord s .code ≡ 0 → fieldNumber (readRecord s .message) ≡ 0
+accepted-rules s code =
+    let k = kept s code in
+    rw (read-kept s k) (k .rules)
+
+pub encoded-read : (s : List ℕ) → Bytes s → readRecord s .code ≡ 0 → encoded (readRecord s .message) ≡ s
+encoded-read s byte code =
+    let k = kept s code in
+    rw (read-kept s k) (encoded-decoded s byte (k .whole))
+
 -- an accepted record, read and written again, gives the same 32 bytes
 pub read-then-written : (s : List ℕ) → Bytes s → readRecord s .code ≡ 0 → (buffer : List ℕ) → length buffer ≡ 32 → written (readRecord s .message) buffer ≡ record { code = 0; bytes = s }
 read-then-written s byte code buffer room =
-    let k = kept s code in
-    rw (read-kept s k, written-kept (decoded s) (k .rules) buffer room, encoded-decoded s byte (k .whole))
+    rw (written-kept (readRecord s .message) (accepted-rules s code) buffer room, encoded-read s byte code)
 
 pub length-encoded : (m : Message) → length (encoded m) ≡ 32
 unfolding encoded headBytes

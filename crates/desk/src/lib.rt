@@ -105,7 +105,8 @@ pub fn apply_record(st: Station, d: Desk, s: &[u8]) -> Applied
     apply(st, d, m)
 }
 
-fn movement_refused(code: u8) -> MovementAnswer
+// The answer that refuses the movement question.
+pub fn movement_refused(code: u8) -> MovementAnswer
     ensures { λ r. ⌜ r ≡ movementRefused code ⌝ }
 {
     MovementAnswer {

@@ -8,3 +8,4 @@ pub mod Runs
 pub mod Theorem
 pub mod StationK
 pub mod OtherDesks
+pub mod Replaying

@@ -1,15 +1,15 @@
 -- Station K: the cases that document 01 marks *, in one proof over the written rules.
 -- Assumes nothing.
 use mathlib.Core.Bool.{Bool, true, false}
-use mathlib.Core.List.{List, [], _∷_, _++_, map}
+use mathlib.Core.List.{List, [], _∷_, _++_, map, foldr}
 use mathlib.Core.Path.{_≡_, refl}
 use Prim.Native.Nat.{ℕ}
-use lib.ListN.{take}
+use lib.ListN.{take, replicate}
 use Rattle.sets.specs.Range.{firstFrom, allFrom}
 use Rattle.sets.specs.Sets.{has, single, setOf}
 use Rattle.message.specs.declared.Message.{Message}
 use Rattle.message.specs.Fields.{named, fieldsKept, fieldNumber}
-use Rattle.message.specs.Record.{decoded, headBytes, encoded, readRecord}
+use Rattle.message.specs.Record.{decoded, headBytes, encoded, readRecord, WriteAnswer}
 use Rattle.station.specs.declared.Station.{Station}
 use Rattle.station.specs.Station.{tiedWith, tied, zoneTurnouts, theRoute, splits}
 use Rattle.sheet.specs.Layout.{headerNumber, valuesFrom, places, stationIn}
@@ -21,10 +21,14 @@ use Rattle.zone.specs.Clearance.{clearanceFits}
 use Rattle.zone.specs.Kinds.{row, workAfter, movementAfter, recorderAfter, minutesFor, zoneAfter, answered, heard}
 use Rattle.desk.specs.Desk.{freshDesk, applied, appliedRecord}
 use Rattle.desk.specs.Questions.{workAnswered}
+use Rattle.journal.specs.Journal.{isJournal, journalNumber, counted, recordsFrom, records}
+use Rattle.report.specs.Answers.{withAnswer}
+use Rattle.report.specs.Text.{digits, decimal, lineOf, linesFrom, textOf}
 use Rattle.history.specs.Since.{Since, never, since, afterLast, afterFirst, any, anyThenNone}
 use Rattle.history.specs.History.{underAgreedWork, openToWork, standing, cleared, ofItsRoute, clearsWell}
 use Rattle.history.specs.Lists.{Input, message, bytes, Reply, after, answers, accepted, ofZone}
 use Rattle.history.specs.Demand3.{ours}
+use Rattle.history.specs.Replay.{inputsOf, storedFrom, ran, replayed}
 
 -- "P = 3, Z = 1, R = 1; 0 and 1 an electric crossover, 2 alone by hand; route 0 runs over {0}, flank {2}, reverse empty: 50 bytes."
 abbrev pub sheetK : List ℕ
@@ -84,6 +88,32 @@ messagesK =
 abbrev pub recordsK : List Input
 recordsK = map (λ (m : Message). bytes (encoded m)) messagesK
 
+-- the journal that holds them: "WKJ, version (16 bits, 1), count (32 bits ..), seven zeros; then the records"
+abbrev pub journalK : List ℕ
+journalK =
+    87 ∷ 75 ∷ 74 ∷ 0 ∷ 1 ∷ 0 ∷ 0 ∷ 0 ∷ 11 ∷ 0 ∷ 0 ∷ 0 ∷ 0 ∷ 0 ∷ 0 ∷ 0
+    ∷ foldr (λ (m : Message) (rest : List ℕ). encoded m ++ rest) [] messagesK
+
+-- both replayed, with room for eleven answers
+abbrev replayedK : WriteAnswer
+replayedK = replayed sheetK journalK (replicate 55 0)
+
+-- "Output, whole", in ASCII: the numbers of a line, a space (32) between them, a line end (10)
+abbrev linesK : List ℕ
+linesK =
+    49 ∷ 32 ∷ 48 ∷ 32 ∷ 48 ∷ 10
+    ∷ 50 ∷ 32 ∷ 48 ∷ 32 ∷ 48 ∷ 10
+    ∷ 51 ∷ 32 ∷ 48 ∷ 32 ∷ 48 ∷ 10
+    ∷ 52 ∷ 32 ∷ 48 ∷ 32 ∷ 48 ∷ 10
+    ∷ 53 ∷ 32 ∷ 50 ∷ 50 ∷ 32 ∷ 48 ∷ 10
+    ∷ 54 ∷ 32 ∷ 48 ∷ 32 ∷ 48 ∷ 10
+    ∷ 55 ∷ 32 ∷ 50 ∷ 50 ∷ 32 ∷ 48 ∷ 10
+    ∷ 56 ∷ 32 ∷ 48 ∷ 32 ∷ 48 ∷ 10
+    ∷ 57 ∷ 32 ∷ 49 ∷ 57 ∷ 32 ∷ 48 ∷ 10
+    ∷ 49 ∷ 48 ∷ 32 ∷ 48 ∷ 32 ∷ 48 ∷ 10
+    ∷ 49 ∷ 49 ∷ 32 ∷ 48 ∷ 32 ∷ 49 ∷ 10
+    ∷ []
+
 abbrev reply : ℕ → ℕ → Reply
 reply code minutes = record { code = code; minutes = minutes }
 
@@ -117,6 +147,9 @@ pub record Cases : Type 0 where
   pub output :
       answers ours stationK freshDesk recordsK
       ≡ reply 0 0 ∷ reply 0 0 ∷ reply 0 0 ∷ reply 0 0 ∷ reply 22 0 ∷ reply 0 0 ∷ reply 22 0 ∷ reply 0 0 ∷ reply 19 0 ∷ reply 0 0 ∷ reply 0 1 ∷ []
+  -- the same as the program prints it, from the bytes of the two files
+  pub journal : records journalK ≡ map encoded messagesK
+  pub text : textOf (replayedK .code) (replayedK .bytes) (counted journalK) ≡ linesK
   -- "After record 3 turnout 0 is open to work; after 6 not, though 1 is; after 10 still not."
   pub open-3 : openK 3 0 ≡ true
   pub shut-6 : openK 6 0 ≡ false
@@ -169,10 +202,12 @@ pub record Cases : Type 0 where
   pub other-position : any (clearsWell stationK (naming 5 110 512 0 0 0) 0) (reversed ∷ []) ≡ false
 
 pub station-k : Cases
-unfolding readSheet headerNumber stationIn places valuesFrom judged badTurnout badRoute goodTurnout goodRoute firstFrom allFrom tied tiedWith has single after answers accepted ofZone applied appliedRecord readRecord decoded headBytes encoded named fieldsKept fieldNumber heard answered row workAfter movementAfter recorderAfter minutesFor minutesBetween zoneAfter zoneTurnouts setOf splits theRoute regimeOf clearanceFits freshDesk workAnswered underAgreedWork openToWork standing cleared afterLast afterFirst any anyThenNone Verdicts.judged
+unfolding readSheet headerNumber stationIn places valuesFrom judged badTurnout badRoute goodTurnout goodRoute firstFrom allFrom tied tiedWith has single after answers accepted ofZone applied appliedRecord readRecord decoded headBytes encoded named fieldsKept fieldNumber heard answered row workAfter movementAfter recorderAfter minutesFor minutesBetween zoneAfter zoneTurnouts setOf splits theRoute regimeOf clearanceFits freshDesk workAnswered isJournal journalNumber counted recordsFrom records inputsOf replayed ran storedFrom withAnswer textOf linesFrom lineOf decimal digits underAgreedWork openToWork standing cleared afterLast afterFirst any anyThenNone Verdicts.judged
 station-k = record {
   sheet = refl;
   output = refl;
+  journal = refl;
+  text = refl;
   open-3 = refl;
   shut-6 = refl;
   other-6 = refl;

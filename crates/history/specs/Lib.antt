@@ -2,3 +2,4 @@ pub mod Since
 pub mod History
 pub mod Lists
 pub mod Demand3
+pub mod Replay

@@ -7,7 +7,7 @@ use lib.Dec.{eqb, ltb}
 use lib.ListN.{length, set}
 use Rattle.report.specs.Answers.{codeIn, minutesIn}
 
--- "figures here are base ten": the decimal digits of n, in ASCII, the most significant first; at most k of them
+-- the decimal digits of n, in ASCII, the most significant first, as the output of station K has them; k is as many as n may have
 unfoldable pub digits : ℕ → ℕ → List ℕ
 digits zero n = []
 digits (suc k) n = cond (ltb n 10) ((48 + n) ∷ []) (digits k (n / 10) ++ ((48 + n % 10) ∷ []))

@@ -18,7 +18,7 @@ pub fn put_answer(s: &mut [u8], n: u32, code: u8, minutes: u32)
 }
 
 // Puts a byte at a place, and says where the next one goes; past the end nothing is stored.
-fn put_byte(out: &mut [u8], at: usize, b: u8) -> usize
+pub fn put_byte(out: &mut [u8], at: usize, b: u8) -> usize
     ensures { λ r. ⌜ record { place = r; bytes = now (out .exit) } ≡ putByte (now (out .entry)) at b ⌝ }
 {
     if at < out.len() {

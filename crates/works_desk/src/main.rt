@@ -4,8 +4,6 @@
 ghost use Rattle.io.specs.Counts.{Counts};
 use libc::STDOUT_FILENO;
 
-mod files;
-
 // The text of the answers, put into a buffer; says how many bytes of the buffer it takes. The proof adds to `report::text` that
 // these are within the buffer.
 fn text_within(code: u8, answers: &[u8], count: u32, out: &mut [u8]) -> usize
@@ -14,7 +12,7 @@ fn text_within(code: u8, answers: &[u8], count: u32, out: &mut [u8]) -> usize
     report::text(code, answers, count, out)
 }
 
-// Prints the answers to a journal's records, by one write. There are at most 1,024: 5 bytes each as answers, at most 17 as lines.
+// Prints the answers to a journal's records, from one buffer. There are at most 1,024: 5 bytes each as answers, at most 17 as lines.
 fn print_answers(sheet: &[u8], journal: &[u8]) {
     let mut answers = [0u8; 5120];
     let code = history::replay(sheet, journal, &mut answers);

@@ -1,11 +1,11 @@
--- `works_desk::files::read_all` is safe, ends and counts bytes of its buffer: the room left in it falls. Assumes nothing.
+-- `files::read_all` is safe, ends and counts bytes of its buffer: the room left in it falls. Assumes nothing.
 use mathlib.Core.Path.{_≡_}
 use Prim.Native.Nat.{_-_, _≤_}
 use lib.ListN.{length}
 use Rattle.io.proofs.Counting.{counts}
 use borrow.Author.Needs.{needs}
-use Rattle.works_desk.proofs.files.read_all.Statement.{statement}
-use Rattle.works_desk.proofs.files.read_all.Tie as tie
+use Rattle.files.proofs.read_all.Statement.{statement}
+use Rattle.files.proofs.read_all.Tie as tie
 
 abbrev Inv-loop : tie.InvT-loop
 Inv-loop fd buf₀ done₀ buf done = (done ≤ length buf) × (length buf ≡ length buf₀)

@@ -1,0 +1,21 @@
+-- `exports_line::desk_verdict` meets its contract: the code and the verdict are packed in one number. Assumes nothing.
+use borrow.Author.Needs.{needs}
+use Rattle.exports_line.proofs.desk_verdict.Statement.{statement}
+use Rattle.exports_line.proofs.desk_verdict.Tie as tie
+
+returns : tie.Need-returns
+returns c =
+    rw (c .ruling-verdict .ensures, c .before .ruling-code .ensures, c .before .before .judge .ensures)
+
+pub desk-verdict-spec : {M : Type 1} → statement M
+desk-verdict-spec =
+    tie.close
+    (tie.spec
+    (λ c κs. search needs)
+    (λ c κs. search needs)
+    (λ c. search needs)
+    (λ c κs. search needs)
+    (λ c. search needs)
+    (λ c. search needs)
+    (λ c. search needs)
+    returns)

@@ -1,0 +1,284 @@
+//! Random lists of records: mostly a sensible next message from the state of the desk,
+//! mixed with untimely, slightly wrong and meaningless ones.
+
+use crate::rng::Rng;
+use reference::builders;
+use reference::clearance::Position;
+use reference::desk::Desk;
+use reference::message::{Form, Message, RECORD};
+use reference::set::{holds, only, Set};
+use reference::station::{Drive, Station};
+use reference::zone::{Movement, Train, Work, Works, Zone};
+
+/// The zones that a list mostly talks of, and the ids in use.
+pub struct Talk {
+    zones: Vec<u8>,
+    forms: [u32; 3],
+    trains: [u32; 3],
+}
+
+impl Talk {
+    pub fn new(rng: &mut Rng, station: &Station) -> Talk {
+        let busy = rng.within(1..=3);
+        let zones = (0..busy).map(|_| station.turnouts[rng.index(station.turnouts.len())].zone).collect();
+        let mut id = || match rng.within(0..=9) {
+            0 => u32::MAX - rng.within(0..=2),
+            1 => rng.next() as u32 | 1,
+            _ => rng.within(1..=9),
+        };
+        Talk { zones, forms: [id(), id(), id()], trains: [id(), id(), id()] }
+    }
+
+    /// The next record of the list.
+    pub fn next(&self, rng: &mut Rng, desk: &Desk) -> [u8; RECORD] {
+        let zone = rng.pick(&self.zones);
+        let state = desk.zone(zone).expect("a zone of the station");
+        let station = desk.station();
+        let place = Place { talk: self, station, zone, state };
+        let sensible = |rng: &mut Rng| place.sensible(rng).in_zone(zone).at(time_after(rng, state.last));
+        match rng.within(0..=99) {
+            0..=61 => sensible(rng).to_bytes(),
+            62..=79 => place.untimely(rng).in_zone(zone).at(time_after(rng, state.last)).to_bytes(),
+            80..=94 => {
+                let message = sensible(rng);
+                near_miss(rng, message, state.last).to_bytes()
+            }
+            95..=97 => {
+                let mut record = sensible(rng).to_bytes();
+                record[rng.index(RECORD)] = rng.byte();
+                record
+            }
+            _ => {
+                let mut record = [0; RECORD];
+                record.copy_from_slice(&rng.bytes(RECORD));
+                record[0] %= 16;
+                record
+            }
+        }
+    }
+}
+
+fn time_after(rng: &mut Rng, last: u32) -> u32 {
+    let seconds = match rng.within(0..=99) {
+        0..=29 => 0,
+        30..=69 => rng.within(1..=59),
+        70..=94 => rng.within(60..=600),
+        95..=98 => rng.within(601..=200_000),
+        _ => rng.within(0..=1 << 30),
+    };
+    last.saturating_add(seconds)
+}
+
+/// A zone of the desk, as the generator sees it.
+struct Place<'p, 's> {
+    talk: &'p Talk,
+    station: &'s Station,
+    zone: u8,
+    state: &'p Zone<'s>,
+}
+
+impl Place<'_, '_> {
+    /// A message that mostly will be accepted.
+    fn sensible(&self, rng: &mut Rng) -> Message {
+        match rng.within(0..=99) {
+            0..=3 => builders::recorder(u8::from(!self.state.recorder_working)),
+            4..=43 => self.about_work(rng),
+            _ => self.about_movement(rng),
+        }
+    }
+
+    fn about_work(&self, rng: &mut Rng) -> Message {
+        match self.state.work {
+            Work::None => {
+                let turnouts = self.whole_crossovers(self.some(rng, self.station.of_zone(self.zone)));
+                let form = rng.pick(&[1, 2]);
+                Message { a: turnouts, ..builders::work_asked(rng.pick(&self.talk.forms), form, &[]) }
+            }
+            Work::Asked(works) if rng.chance(85) => builders::agreed(works.id),
+            Work::Asked(works) => builders::withdrawn(works.id),
+            Work::Agreed { works, .. } => match rng.weighted(&[(5, 4), (part_weight(works.form), 10), (2, 11)]) {
+                4 => self.detection_off(rng, works),
+                10 => Message { a: self.part(rng, works), ..builders::part_restored(works.id, &[]) },
+                _ => builders::all_restored(works.id),
+            },
+        }
+    }
+
+    fn detection_off(&self, rng: &mut Rng, works: Works) -> Message {
+        let free = works.turnouts & !self.train().map_or(0, |train| train.cleared);
+        let named = self.some(rng, if free == 0 { works.turnouts } else { free });
+        let portable = if works.form == Form::M45 || rng.chance(10) { rng.part(named, 40) } else { 0 };
+        Message { a: named & !portable, b: portable, ..builders::detection_off(works.id, &[], &[]) }
+    }
+
+    /// Crossovers and turnouts of the work that no movement names, if there are such.
+    fn part(&self, rng: &mut Rng, works: Works) -> Set {
+        let named = self.train().map_or(0, |train| train.route.named());
+        let free = works.turnouts & !self.whole_crossovers(named);
+        let part = self.whole_crossovers(self.some(rng, if free == 0 { works.turnouts } else { free }));
+        if part != works.turnouts {
+            return part;
+        }
+        part & !self.whole_crossovers(only(rng.member(part)))
+    }
+
+    fn about_movement(&self, rng: &mut Rng) -> Message {
+        let Some(train) = self.train() else {
+            let routes: Vec<u8> = (0u8..)
+                .zip(&self.station.routes)
+                .filter(|(_, route)| route.zone == self.zone)
+                .map(|(n, _)| n)
+                .collect();
+            let route = if routes.is_empty() { rng.within(0..=63) as u8 } else { rng.pick(&routes) };
+            return builders::movement_asked(rng.pick(&self.talk.trains), route);
+        };
+        let lacking = train.route.named() & self.state.work.agreed_turnouts() & !train.cleared;
+        let ended = if train.ordered { builders::passed(train.id) } else { builders::cancelled(train.id) };
+        match rng.within(0..=9) {
+            0 => ended,
+            _ if lacking != 0 => self.clearance(rng, train, lacking),
+            _ if train.ordered => ended,
+            _ => builders::ordered(train.id, if train.efficient == train.cleared { rng.pick(&[1, 1, 2]) } else { 2 }),
+        }
+    }
+
+    /// A clearance that fits.
+    fn clearance(&self, rng: &mut Rng, train: &Train, lacking: Set) -> Message {
+        let turnout = rng.member(lacking);
+        let electric = self.station.turnout(turnout).is_some_and(|turnout| turnout.drive == Drive::Electric);
+        let lesser = if electric { rng.pick(&[3, 4, 5, 6]) } else { rng.pick(&[7, 8, 9]) };
+        let declaration = if rng.chance(70) { rng.pick(&[1, 2]) } else { lesser };
+        let clamp = match (holds(train.route.run_over, turnout), declaration) {
+            (true, 4 | 6 | 9) => 1,
+            (true, 8) => rng.pick(&[1, 2]),
+            _ => 0,
+        };
+        let position = u8::from(train.route.position(turnout) == Position::Reverse);
+        let channel = if self.state.recorder_working { 1 } else { 2 };
+        builders::cleared(train.id, [turnout, declaration, position, clamp, channel])
+    }
+
+    /// A message of any kind that reads, whatever the state.
+    fn untimely(&self, rng: &mut Rng) -> Message {
+        let kind = rng.within(1..=12) as u8;
+        let form = match self.state.work {
+            Work::Asked(works) | Work::Agreed { works, .. } if rng.chance(90) => works.id,
+            _ => rng.pick(&self.talk.forms),
+        };
+        let train = match self.train() {
+            Some(train) if rng.chance(90) => train.id,
+            _ => rng.pick(&self.talk.trains),
+        };
+        let id = match kind {
+            5..=9 => train,
+            12 => 0,
+            _ => form,
+        };
+        let zone_turnouts = self.station.of_zone(self.zone);
+        let base = builders::message(kind, id);
+        let below = |rng: &mut Rng, limit: usize| rng.index((limit + 1).min(64)) as u8;
+        match kind {
+            1 => Message { a: self.any_part(rng, zone_turnouts), ..base.d(0, rng.pick(&[1, 2])) },
+            10 => Message { a: self.any_part(rng, zone_turnouts), ..base },
+            4 => {
+                let a = self.any_part(rng, zone_turnouts);
+                Message { a, b: self.any_part(rng, zone_turnouts & !a), ..base }
+            }
+            5 => base.d(0, below(rng, self.station.routes.len())),
+            6 => {
+                let turnout = match self.train().map_or(0, |train| train.route.named()) {
+                    named if named != 0 && rng.chance(80) => rng.member(named),
+                    _ => below(rng, self.station.turnouts.len()),
+                };
+                let declaration = rng.within(1..=9) as u8;
+                let (position, clamp) = (rng.within(0..=1) as u8, rng.within(0..=2) as u8);
+                Message { d: [turnout, declaration, position, clamp, rng.pick(&[1, 2]), 0], ..base }
+            }
+            7 => base.d(0, rng.pick(&[1, 2])),
+            12 => base.d(0, rng.pick(&[0, 1])),
+            _ => base,
+        }
+    }
+
+    fn train(&self) -> Option<&Train<'_>> {
+        match &self.state.movement {
+            Movement::Standing(train) => Some(train),
+            Movement::None => None,
+        }
+    }
+
+    /// Some turnouts of a set, at least one where there is one.
+    fn some(&self, rng: &mut Rng, set: Set) -> Set {
+        if set == 0 {
+            return 0;
+        }
+        let percent = rng.pick(&[10, 50, 90]);
+        only(rng.member(set)) | rng.part(set, percent)
+    }
+
+    fn any_part(&self, rng: &mut Rng, set: Set) -> Set {
+        match rng.within(0..=9) {
+            0 => 0,
+            1 => self.state.work.agreed_turnouts(),
+            2..=5 => self.whole_crossovers(rng.part(set, 40)),
+            6 => rng.part(self.state.work.agreed_turnouts(), 50),
+            _ => rng.part(set, 30),
+        }
+    }
+
+    /// The set with the other end of each crossover it touches.
+    fn whole_crossovers(&self, set: Set) -> Set {
+        let mut whole = set;
+        for (n, turnout) in (0u8..).zip(&self.station.turnouts) {
+            if let Some(partner) = turnout.partner.filter(|_| holds(set, n)) {
+                whole |= only(partner);
+            }
+        }
+        whole
+    }
+}
+
+/// Part restoration is for recorded verbal agreements.
+fn part_weight(form: Form) -> u32 {
+    match form {
+        Form::M45 => 1,
+        Form::RecordedVerbal => 4,
+    }
+}
+
+/// One detail of a clearance changed to another good value.
+fn other_clearance(rng: &mut Rng, message: Message) -> Message {
+    let [_, _, position, _, channel, _] = message.d;
+    match rng.within(0..=3) {
+        0 => message.d(1, rng.within(1..=9) as u8),
+        1 => message.d(2, 1 - position),
+        2 => message.d(3, rng.within(0..=2) as u8),
+        _ => message.d(4, 3 - channel),
+    }
+}
+
+/// One field changed a little.
+fn near_miss(rng: &mut Rng, message: Message, last: u32) -> Message {
+    if message.kind == 6 && rng.chance(50) {
+        return other_clearance(rng, message);
+    }
+    let bit = only(rng.within(0..=63) as u8);
+    match rng.within(0..=15) {
+        0 => message.at(last.saturating_sub(1)),
+        1 => message.at(last.saturating_sub(rng.within(1..=90))),
+        2 => Message { id: message.id.wrapping_add(1), ..message },
+        3 => Message { id: 0, ..message },
+        4 => message.in_zone(rng.within(0..=9) as u8),
+        5 => message.in_zone(rng.byte()),
+        6 => Message { a: message.a ^ bit, ..message },
+        7 => Message { a: message.a & message.a.wrapping_sub(1), ..message },
+        8 => Message { a: message.a ^ only(rng.within(0..=5) as u8), ..message },
+        9 => Message { b: message.b ^ only(rng.within(0..=5) as u8), ..message },
+        10 => Message { b: message.a, ..message },
+        11 => Message { a: 0, b: 0, ..message },
+        12 => message.d(rng.index(6), rng.pick(&[0, 1, 2, 3, 9, 10, 62, 63, 64, 255])),
+        13 => message.d(rng.index(6), rng.byte()),
+        14 => message.d(rng.index(5), rng.within(0..=2) as u8),
+        _ => Message { kind: rng.within(0..=14) as u8, ..message },
+    }
+}

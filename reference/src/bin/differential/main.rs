@@ -1,0 +1,70 @@
+//! `differential SEED COUNT`: the proved library and this implementation side by side on COUNT random inputs.
+//! Stops at the first difference (exit 1), and leaves `sheet` and `journal` in the folder `difference`.
+
+mod compare;
+mod demand;
+mod journals;
+mod lists;
+mod rng;
+mod stations;
+mod tally;
+
+use compare::Comparison;
+use std::path::Path;
+use std::{env, fs, process};
+
+/// A call that the two answer differently, and the files to replay it from.
+pub struct Difference {
+    pub call: String,
+    pub library: String,
+    pub reference: String,
+    pub sheet: Vec<u8>,
+    pub journal: Vec<u8>,
+}
+
+fn main() {
+    let numbers: Vec<u64> = env::args().skip(1).filter_map(|word| word.parse().ok()).collect();
+    let [seed, count] = numbers[..] else {
+        eprintln!("usage: differential SEED COUNT");
+        process::exit(2);
+    };
+    let mut comparison = Comparison::new(seed);
+    if let Err(difference) = run(&mut comparison, count) {
+        show(&difference, &comparison, seed);
+        process::exit(1);
+    }
+    let never = comparison.tally.report();
+    if !never.is_empty() {
+        println!("never occurred: {}", never.join(", "));
+        process::exit(1);
+    }
+    println!("no difference");
+}
+
+/// All verdicts, then rounds until the count is reached; the last round is finished.
+fn run(comparison: &mut Comparison, count: u64) -> Result<(), Difference> {
+    comparison.all_verdicts()?;
+    while comparison.tally.inputs < count {
+        comparison.round()?;
+    }
+    Ok(())
+}
+
+fn show(difference: &Difference, comparison: &Comparison, seed: u64) {
+    println!("difference, seed {seed}, after {} inputs and {} lists", comparison.tally.inputs, comparison.tally.lists);
+    println!("call: {}", difference.call);
+    println!("library: {}", difference.library);
+    println!("reference: {}", difference.reference);
+    let folder = Path::new("difference");
+    let written = fs::create_dir_all(folder)
+        .and_then(|()| fs::write(folder.join("sheet"), &difference.sheet))
+        .and_then(|()| fs::write(folder.join("journal"), &difference.journal));
+    match written {
+        Ok(()) => println!(
+            "sheet ({} bytes) and journal ({} bytes) are in the folder difference",
+            difference.sheet.len(),
+            difference.journal.len()
+        ),
+        Err(error) => println!("difference: {error}"),
+    }
+}

@@ -1,0 +1,86 @@
+//! Counts of what occurred, so that a run that never met a code, kind, regime or verdict is no test.
+
+const CODES: [u8; 25] = [0, 1, 2, 3, 4, 5, 6, 10, 11, 12, 13, 14, 15, 16, 17, 18, 19, 20, 21, 22, 30, 31, 32, 33, 60];
+const HEARD: [u8; 13] = [0, 11, 12, 13, 14, 15, 16, 17, 18, 19, 20, 21, 22];
+const REGIMES: [&str; 3] = ["held", "clear", "danger"];
+
+pub struct Tally {
+    /// Inputs so far, of all sorts.
+    pub inputs: u64,
+    pub heard: u64,
+    pub lists: u64,
+    pub questions: u64,
+    codes: [u64; 256],
+    /// By kind (0 for none of the twelve) and code, of messages heard.
+    answers: [[u64; 256]; 13],
+    regimes: [u64; 3],
+    verdicts: [u64; 7],
+}
+
+impl Tally {
+    pub fn new() -> Tally {
+        Tally {
+            inputs: 0,
+            heard: 0,
+            lists: 0,
+            questions: 0,
+            codes: [0; 256],
+            answers: [[0; 256]; 13],
+            regimes: [0; 3],
+            verdicts: [0; 7],
+        }
+    }
+
+    pub fn code(&mut self, code: u8) {
+        self.codes[usize::from(code)] += 1;
+    }
+
+    pub fn heard(&mut self, kind: u8, code: u8) {
+        self.inputs += 1;
+        self.heard += 1;
+        self.code(code);
+        let kind = if kind <= 12 { usize::from(kind) } else { 0 };
+        self.answers[kind][usize::from(code)] += 1;
+    }
+
+    pub fn movement(&mut self, [code, regime, ..]: [u8; 4]) {
+        self.questions += 1;
+        self.code(code);
+        if code == 0 {
+            self.regimes[usize::from(regime)] += 1;
+        }
+    }
+
+    pub fn work(&mut self, code: u8) {
+        self.questions += 1;
+        self.code(code);
+    }
+
+    pub fn verdict(&mut self, [code, verdict]: [u8; 2]) {
+        self.inputs += 1;
+        self.code(code);
+        self.verdicts[usize::from(verdict)] += 1;
+    }
+
+    /// Prints the counts; returns what never occurred.
+    pub fn report(&self) -> Vec<String> {
+        println!(
+            "inputs {}: heard {}, lists {}, questions beside them {}",
+            self.inputs, self.heard, self.lists, self.questions
+        );
+        let mut counts: Vec<(String, u64)> = Vec::new();
+        counts.extend(CODES.iter().map(|&code| (format!("code {code}"), self.codes[usize::from(code)])));
+        counts.extend((1..=12).map(|kind| (format!("kind {kind} accepted"), self.answers[kind][0])));
+        counts.extend(REGIMES.iter().zip(self.regimes).map(|(regime, count)| (format!("regime {regime}"), count)));
+        counts.extend((1..=6).map(|verdict| (format!("verdict {verdict}"), self.verdicts[verdict])));
+        for (name, count) in &counts {
+            println!("{name}: {count}");
+        }
+        println!("answers to messages heard, by kind (0: none of the twelve) and code");
+        println!("kind {}", HEARD.map(|code| format!("{code:>8}")).concat());
+        for (kind, answers) in self.answers.iter().enumerate() {
+            println!("{kind:>4} {}", HEARD.map(|code| format!("{:>8}", answers[usize::from(code)])).concat());
+        }
+        counts.into_iter().filter(|(_, count)| *count == 0).map(|(name, _)| name).collect()
+    }
+}

@@ -1,0 +1,174 @@
+//! Builders of sheets, messages and journals for tests, stored cases and random inputs; station K among them.
+
+use crate::journal;
+use crate::message::{Message, RECORD};
+use crate::set::{self, Set};
+
+pub const NO_PARTNER: u8 = 255;
+pub const ELECTRIC: u8 = 0;
+pub const HAND: u8 = 1;
+
+/// A sheet in the making: any bytes in the records, counts as many as there are records.
+#[derive(Clone, Debug, Default)]
+pub struct Sheet {
+    pub zones: u8,
+    /// Zone, partner, drive.
+    pub turnouts: Vec<[u8; 3]>,
+    /// Zone, and the sets run over, flank, exit zone, reverse.
+    pub routes: Vec<(u8, [Set; 4])>,
+}
+
+impl Sheet {
+    pub fn new(zones: u8) -> Sheet {
+        Sheet { zones, ..Sheet::default() }
+    }
+
+    /// One turnout alone.
+    pub fn turnout(mut self, zone: u8, drive: u8) -> Sheet {
+        self.turnouts.push([zone, NO_PARTNER, drive]);
+        self
+    }
+
+    /// Two turnouts, the ends of a crossover.
+    pub fn crossover(mut self, zone: u8, drive: u8) -> Sheet {
+        let first = self.turnouts.len() as u8;
+        self.turnouts.push([zone, first + 1, drive]);
+        self.turnouts.push([zone, first, drive]);
+        self
+    }
+
+    pub fn route(mut self, zone: u8, run_over: &[u8], flank: &[u8], exit_zone: &[u8], reverse: &[u8]) -> Sheet {
+        self.routes.push((zone, [run_over, flank, exit_zone, reverse].map(set::of)));
+        self
+    }
+
+    pub fn bytes(&self) -> Vec<u8> {
+        let mut bytes = b"SPT\x00\x01".to_vec();
+        bytes.extend([self.turnouts.len() as u8, self.routes.len() as u8, self.zones]);
+        bytes.extend(self.turnouts.iter().flatten());
+        for (zone, sets) in &self.routes {
+            bytes.push(*zone);
+            bytes.extend(sets.iter().flat_map(|set| set.to_be_bytes()));
+        }
+        bytes
+    }
+}
+
+/// 01, "Station K": "0 and 1 an electric crossover, 2 alone by hand; route 0 runs over {0}, flank {2}, reverse empty".
+pub fn station_k() -> Sheet {
+    Sheet::new(1).crossover(0, ELECTRIC).turnout(0, HAND).route(0, &[0], &[2], &[], &[])
+}
+
+/// 01, "Station K": the eleven records, all zone 0.
+pub fn journal_k() -> Vec<Message> {
+    vec![
+        work_asked(7, 1, &[0, 1]),
+        agreed(7).at(90),
+        detection_off(7, &[0, 1], &[]).at(100),
+        movement_asked(512, 0).at(110),
+        ordered(512, 1).at(111),
+        cleared(512, [0, 3, 0, 0, 1]).at(115),
+        ordered(512, 1).at(116),
+        ordered(512, 2).at(117),
+        all_restored(7).at(118),
+        passed(512).at(130),
+        all_restored(7).at(209),
+    ]
+}
+
+/// A message of a kind and id; zone 0, time 0, all else 0.
+pub fn message(kind: u8, id: u32) -> Message {
+    Message { kind, zone: 0, time: 0, id, a: 0, b: 0, d: [0; 6] }
+}
+
+impl Message {
+    pub fn at(self, time: u32) -> Message {
+        Message { time, ..self }
+    }
+
+    pub fn in_zone(self, zone: u8) -> Message {
+        Message { zone, ..self }
+    }
+
+    pub fn a(self, turnouts: &[u8]) -> Message {
+        Message { a: set::of(turnouts), ..self }
+    }
+
+    pub fn b(self, turnouts: &[u8]) -> Message {
+        Message { b: set::of(turnouts), ..self }
+    }
+
+    /// Detail `n` replaced.
+    pub fn d(mut self, n: usize, value: u8) -> Message {
+        self.d[n] = value;
+        self
+    }
+}
+
+pub fn work_asked(id: u32, form: u8, a: &[u8]) -> Message {
+    message(1, id).a(a).d(0, form)
+}
+
+pub fn agreed(id: u32) -> Message {
+    message(2, id)
+}
+
+pub fn withdrawn(id: u32) -> Message {
+    message(3, id)
+}
+
+pub fn detection_off(id: u32, lost: &[u8], portable: &[u8]) -> Message {
+    message(4, id).a(lost).b(portable)
+}
+
+pub fn movement_asked(train: u32, route: u8) -> Message {
+    message(5, train).d(0, route)
+}
+
+/// Turnout, declaration, position, clamp, channel.
+pub fn cleared(train: u32, [turnout, declaration, position, clamp, channel]: [u8; 5]) -> Message {
+    Message { d: [turnout, declaration, position, clamp, channel, 0], ..message(6, train) }
+}
+
+pub fn ordered(train: u32, aspect: u8) -> Message {
+    message(7, train).d(0, aspect)
+}
+
+pub fn passed(train: u32) -> Message {
+    message(8, train)
+}
+
+pub fn cancelled(train: u32) -> Message {
+    message(9, train)
+}
+
+pub fn part_restored(id: u32, a: &[u8]) -> Message {
+    message(10, id).a(a)
+}
+
+pub fn all_restored(id: u32) -> Message {
+    message(11, id)
+}
+
+pub fn recorder(working: u8) -> Message {
+    message(12, 0).d(0, working)
+}
+
+/// The header of a journal with any count.
+pub fn journal_header(count: u32) -> [u8; journal::HEADER] {
+    let mut header = [0; journal::HEADER];
+    header[..5].copy_from_slice(b"WKJ\x00\x01");
+    header[5..9].copy_from_slice(&count.to_be_bytes());
+    header
+}
+
+/// A journal of any records of 32 bytes, also such as do not read.
+pub fn journal_of(records: &[[u8; RECORD]]) -> Vec<u8> {
+    let mut journal = journal_header(records.len() as u32).to_vec();
+    journal.extend(records.iter().flatten());
+    journal
+}
+
+pub fn journal(messages: &[Message]) -> Vec<u8> {
+    journal_of(&messages.iter().map(Message::to_bytes).collect::<Vec<_>>())
+}

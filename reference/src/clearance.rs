@@ -1,0 +1,73 @@
+//! Clearances of turnouts for a train: what fits (20), by which channel (21). 01: "Clearances fit (20) when ..".
+
+use crate::set::holds;
+use crate::station::{Drive, Route};
+
+#[derive(Clone, Copy, Debug, PartialEq, Eq)]
+pub enum Position {
+    Normal,
+    Reverse,
+}
+
+#[derive(Clone, Copy, Debug, PartialEq, Eq)]
+pub enum Clamp {
+    None,
+    Clamp,
+    Attended,
+}
+
+#[derive(Clone, Copy, Debug, PartialEq, Eq)]
+pub enum Channel {
+    Voice,
+    Written,
+}
+
+#[derive(Clone, Copy, Debug, PartialEq, Eq)]
+pub struct Clearance {
+    pub turnout: u8,
+    /// 1 to 9, as in Annex C.
+    pub declaration: u8,
+    pub position: Position,
+    pub clamp: Clamp,
+    pub channel: Channel,
+}
+
+impl Clearance {
+    /// 01: "Clearances fit (20) when d2 is the route's position, d1 fits the drive .. and so does d3."
+    pub fn fits(&self, route: &Route, drive: Drive) -> bool {
+        self.position == route.position(self.turnout)
+            && self.fits_drive(drive)
+            && self.clamp_fits(holds(route.run_over, self.turnout))
+    }
+
+    /// 01: "1, 2 either; 3-6 electric; 7-9 hand; Annex C".
+    fn fits_drive(&self, drive: Drive) -> bool {
+        match self.declaration {
+            1 | 2 => true,
+            3..=6 => drive == Drive::Electric,
+            _ => drive == Drive::Hand,
+        }
+    }
+
+    /// 01: "For 4, 6, 9: 1 if run over, else 0. For 8: 1 or 2 if run over, else 0 .. Others: 0."
+    fn clamp_fits(&self, run_over: bool) -> bool {
+        match (self.declaration, run_over) {
+            (4 | 6 | 9, true) => self.clamp == Clamp::Clamp,
+            (8, true) => self.clamp != Clamp::None,
+            _ => self.clamp == Clamp::None,
+        }
+    }
+
+    /// 01: "Declarations 1 and 2 mean all efficient".
+    pub fn all_efficient(&self) -> bool {
+        self.declaration <= 2
+    }
+
+    /// 01: "Check 21: voice needs a working recorder, written one that is out (3.26)."
+    pub fn channel_fits(&self, recorder_working: bool) -> bool {
+        match self.channel {
+            Channel::Voice => recorder_working,
+            Channel::Written => !recorder_working,
+        }
+    }
+}

@@ -1,0 +1,93 @@
+//! The definitions of 01, "History, for demand 3", as plain searches over the accepted messages of one zone.
+
+use crate::message::Message;
+use crate::set::holds;
+use crate::station::{Route, Station};
+
+/// The accepted messages of a zone, in order.
+#[derive(Clone, Copy)]
+pub struct History<'m>(pub &'m [Message]);
+
+impl<'m> History<'m> {
+    fn after(&self, index: usize) -> &'m [Message] {
+        &self.0[index + 1..]
+    }
+
+    fn last_of(&self, kind: u8) -> Option<usize> {
+        self.0.iter().rposition(|message| message.kind == kind)
+    }
+
+    /// Where the 2 stands by which the turnout is under agreed work. 01: "the last kind 1 names the turnout,
+    /// a 2 follows it, and after it no 10 naming the turnout and no 11".
+    fn agreement(&self, turnout: u8) -> Option<usize> {
+        let asked = self.last_of(1)?;
+        if !holds(self.0[asked].a, turnout) {
+            return None;
+        }
+        let agreed = asked + 1 + self.after(asked).iter().position(|message| message.kind == 2)?;
+        let ended = self.after(agreed).iter().any(|message| match message.kind {
+            10 => holds(message.a, turnout),
+            11 => true,
+            _ => false,
+        });
+        (!ended).then_some(agreed)
+    }
+
+    pub fn under_agreed_work(&self, turnout: u8) -> bool {
+        self.agreement(turnout).is_some()
+    }
+
+    /// Where the standing 5 is. 01: "Standing: the last 5 has no 8 or 9 after it."
+    fn standing_at(&self) -> Option<usize> {
+        let asked = self.last_of(5)?;
+        let ended = self.after(asked).iter().any(|message| matches!(message.kind, 8 | 9));
+        (!ended).then_some(asked)
+    }
+
+    pub fn standing(&self) -> Option<&'m Message> {
+        self.standing_at().map(|index| &self.0[index])
+    }
+
+    /// 01: "Cleared: in a standing movement, a 6 naming the turnout after that 5."
+    pub fn cleared(&self, turnout: u8) -> bool {
+        self.standing_at().is_some_and(|asked| self.after(asked).iter().any(|message| clears(message, turnout)))
+    }
+
+    /// 01: "Open to work: under agreed work, with a 4 naming it in a or b after that 2
+    /// and no 6 naming it after that 4."
+    pub fn open_to_work(&self, turnout: u8) -> bool {
+        let Some(agreed) = self.agreement(turnout) else {
+            return false;
+        };
+        (agreed + 1..self.0.len()).any(|index| {
+            let message = &self.0[index];
+            let opens = message.kind == 4 && holds(message.a | message.b, turnout);
+            opens && !self.after(index).iter().any(|later| clears(later, turnout))
+        })
+    }
+
+    /// 01: "Of its route: named by the route in that 5's d0."
+    pub fn route<'s>(&self, station: &'s Station) -> Option<&'s Route> {
+        station.routes.get(usize::from(self.standing()?.d[0]))
+    }
+
+    /// 01: "Clearance for that train, in the route's position, all efficient: after that 5 a 6 naming the turnout,
+    /// with the same id, d2 1 if in the route's reverse and else 0, declaration 1 or 2."
+    pub fn good_clearance(&self, station: &Station, turnout: u8) -> bool {
+        let (Some(asked), Some(route)) = (self.standing_at(), self.route(station)) else {
+            return false;
+        };
+        let position = u8::from(holds(route.reverse, turnout));
+        self.after(asked).iter().any(|message| {
+            clears(message, turnout)
+                && message.id == self.0[asked].id
+                && message.d[2] == position
+                && matches!(message.d[1], 1 | 2)
+        })
+    }
+}
+
+/// 01: "a 6 [names] its d0".
+fn clears(message: &Message, turnout: u8) -> bool {
+    message.kind == 6 && message.d[0] == turnout
+}

@@ -1,0 +1,18 @@
+//! The turnout works desk, written a second time from document 01 alone.
+//! Used to test the proved library: by stored cases (`vectors`) and side by side (`differential`).
+
+pub mod builders;
+pub mod clearance;
+pub mod desk;
+pub mod history;
+pub mod journal;
+#[cfg(feature = "library")]
+pub mod library;
+pub mod message;
+pub mod refusal;
+pub mod replay;
+pub mod set;
+pub mod sheet;
+pub mod signals;
+pub mod station;
+pub mod zone;

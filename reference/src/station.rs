@@ -1,0 +1,70 @@
+//! The station that an accepted sheet gives: turnouts, routes, zones.
+
+use crate::clearance::Position;
+use crate::set::{holds, members, only, Set};
+
+#[derive(Clone, Copy, Debug, PartialEq, Eq)]
+pub enum Drive {
+    Electric,
+    /// By hand, with key lock.
+    Hand,
+}
+
+#[derive(Clone, Debug, PartialEq, Eq)]
+pub struct Turnout {
+    pub zone: u8,
+    /// The other end of a crossover.
+    pub partner: Option<u8>,
+    pub drive: Drive,
+}
+
+#[derive(Clone, Debug, PartialEq, Eq)]
+pub struct Route {
+    pub zone: u8,
+    pub run_over: Set,
+    pub flank: Set,
+    pub exit_zone: Set,
+    pub reverse: Set,
+}
+
+impl Route {
+    /// 01: "their union is what the route names".
+    pub fn named(&self) -> Set {
+        self.run_over | self.flank | self.exit_zone
+    }
+
+    pub fn position(&self, turnout: u8) -> Position {
+        if holds(self.reverse, turnout) {
+            Position::Reverse
+        } else {
+            Position::Normal
+        }
+    }
+}
+
+#[derive(Clone, Debug, PartialEq, Eq)]
+pub struct Station {
+    pub zones: u8,
+    pub turnouts: Vec<Turnout>,
+    pub routes: Vec<Route>,
+}
+
+impl Station {
+    pub fn turnout(&self, n: u8) -> Option<&Turnout> {
+        self.turnouts.get(usize::from(n))
+    }
+
+    /// The turnouts of the station in a zone.
+    pub fn of_zone(&self, zone: u8) -> Set {
+        let numbered = (0u8..).zip(&self.turnouts);
+        numbered.filter(|(_, turnout)| turnout.zone == zone).fold(0, |set, (n, _)| set | only(n))
+    }
+
+    /// Does the set hold one end of a crossover without the other?
+    pub fn splits_crossover(&self, set: Set) -> bool {
+        members(set).any(|n| match self.turnout(n).and_then(|turnout| turnout.partner) {
+            Some(partner) => !holds(set, partner),
+            None => false,
+        })
+    }
+}

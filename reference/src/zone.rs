@@ -1,0 +1,294 @@
+//! What a zone holds, and the twelve kinds: checks 15 to 22 in rising number, then the effect.
+//! 01: "Each zone holds its work (none, asked or agreed), one movement, its recorder, its last accepted time."
+
+use crate::clearance::Clearance;
+use crate::message::{Aspect, Content, Form, Message};
+use crate::refusal::{refuse, Refusal};
+use crate::set::{holds, only, Set};
+use crate::station::{Route, Station};
+
+#[derive(Clone, Copy, Debug, PartialEq, Eq)]
+pub struct Works {
+    pub id: u32,
+    pub form: Form,
+    pub turnouts: Set,
+}
+
+#[derive(Clone, Copy, Debug, PartialEq, Eq)]
+pub enum Work {
+    None,
+    Asked(Works),
+    Agreed { works: Works, since: u32, open: Set },
+}
+
+impl Work {
+    /// 01, 15: "no work or movement under this id".
+    fn under(&self, id: u32) -> Result<Works, Refusal> {
+        match self {
+            Work::Asked(works) | Work::Agreed { works, .. } if works.id == id => Ok(*works),
+            _ => Err(Refusal::UnknownId),
+        }
+    }
+
+    /// The turnouts under agreed work.
+    pub fn agreed_turnouts(&self) -> Set {
+        match self {
+            Work::Agreed { works, .. } => works.turnouts,
+            _ => 0,
+        }
+    }
+
+    pub fn open(&self) -> Set {
+        match self {
+            Work::Agreed { open, .. } => *open,
+            _ => 0,
+        }
+    }
+
+    fn shut(&mut self, turnouts: Set) {
+        if let Work::Agreed { open, .. } = self {
+            *open &= !turnouts;
+        }
+    }
+}
+
+#[derive(Clone, Copy, Debug, PartialEq, Eq)]
+pub struct Train<'s> {
+    pub id: u32,
+    pub route: &'s Route,
+    pub ordered: bool,
+    pub cleared: Set,
+    /// Of those cleared, the ones declared all efficient.
+    pub efficient: Set,
+}
+
+#[derive(Clone, Copy, Debug, PartialEq, Eq)]
+pub enum Movement<'s> {
+    None,
+    Standing(Train<'s>),
+}
+
+impl<'s> Movement<'s> {
+    /// 01, 15: "no work or movement under this id".
+    fn under(&self, id: u32) -> Result<Train<'s>, Refusal> {
+        match self {
+            Movement::Standing(train) if train.id == id => Ok(*train),
+            _ => Err(Refusal::UnknownId),
+        }
+    }
+
+    fn names(&self, turnouts: Set) -> bool {
+        match self {
+            Movement::Standing(train) => train.route.named() & turnouts != 0,
+            Movement::None => false,
+        }
+    }
+
+    fn cleared(&self) -> Set {
+        match self {
+            Movement::Standing(train) => train.cleared,
+            Movement::None => 0,
+        }
+    }
+}
+
+#[derive(Clone, Copy, Debug, PartialEq, Eq)]
+pub enum Regime {
+    Held,
+    Clear,
+    Danger,
+}
+
+/// The regime and the turnouts still lacking a clearance.
+#[derive(Clone, Copy, Debug, PartialEq, Eq)]
+pub struct Standing {
+    pub regime: Regime,
+    pub lacking: Set,
+}
+
+#[derive(Clone, Copy, Debug, PartialEq, Eq)]
+pub struct Zone<'s> {
+    pub work: Work,
+    pub movement: Movement<'s>,
+    pub recorder_working: bool,
+    pub last: u32,
+}
+
+impl<'s> Zone<'s> {
+    /// 01: "A fresh desk has no work and no movement in any zone, recorders working, times 0."
+    pub fn fresh() -> Self {
+        Zone { work: Work::None, movement: Movement::None, recorder_working: true, last: 0 }
+    }
+
+    /// 01: "of the route's turnouts under agreed work, held if one lacks a clearance,
+    /// else clear if all carry 1 or 2, else danger".
+    pub fn standing(&self, train_id: u32) -> Result<Standing, Refusal> {
+        let train = self.movement.under(train_id)?;
+        let worked = train.route.named() & self.work.agreed_turnouts();
+        let lacking = worked & !train.cleared;
+        let regime = if lacking != 0 {
+            Regime::Held
+        } else if worked & !train.efficient == 0 {
+            Regime::Clear
+        } else {
+            Regime::Danger
+        };
+        Ok(Standing { regime, lacking })
+    }
+
+    /// Checks 15 to 22 and the effect; returns the minutes. A refusal may leave `self` half changed:
+    /// the desk hears on a copy.
+    pub fn hear(&mut self, station: &'s Station, message: &Message, content: Content) -> Result<u32, Refusal> {
+        let Message { zone, time, id, .. } = *message;
+        match content {
+            Content::WorkAsked { turnouts, form } => self.work_asked(station, zone, Works { id, form, turnouts })?,
+            Content::Agreed => self.agreed(id, time)?,
+            Content::Withdrawn => self.withdrawn(id)?,
+            Content::DetectionOff { lost, portable } => self.detection_off(id, lost, portable)?,
+            Content::MovementAsked { route } => self.movement_asked(station, zone, id, route)?,
+            Content::Cleared(clearance) => self.cleared(station, id, clearance)?,
+            Content::Ordered(aspect) => self.ordered(id, aspect)?,
+            Content::Passed => self.passed(id)?,
+            Content::Cancelled => self.cancelled(id)?,
+            Content::PartRestored { turnouts } => self.part_restored(station, id, turnouts)?,
+            Content::AllRestored => return self.all_restored(id, time),
+            Content::Recorder { working } => self.recorder_working = working,
+        }
+        // 01: "every other answer has 0".
+        Ok(0)
+    }
+
+    /// Kind 1: "16 work in zone; 17 a empty, outside the zone or splitting a crossover".
+    fn work_asked(&mut self, station: &Station, zone: u8, works: Works) -> Result<(), Refusal> {
+        refuse(self.work != Work::None, Refusal::Occupied)?;
+        let empty = works.turnouts == 0;
+        let outside = works.turnouts & !station.of_zone(zone) != 0;
+        let splitting = station.splits_crossover(works.turnouts);
+        refuse(empty || outside || splitting, Refusal::Place)?;
+        self.work = Work::Asked(works);
+        Ok(())
+    }
+
+    /// Kind 2: "15; 18 agreed already; 19"; "agreed, at this time".
+    fn agreed(&mut self, id: u32, time: u32) -> Result<(), Refusal> {
+        self.work.under(id)?;
+        let Work::Asked(works) = self.work else {
+            return Err(Refusal::Stage);
+        };
+        refuse(self.movement.names(works.turnouts), Refusal::Conflict)?;
+        self.work = Work::Agreed { works, since: time, open: 0 };
+        Ok(())
+    }
+
+    /// Kind 3: "15; 18 agreed"; "no work".
+    fn withdrawn(&mut self, id: u32) -> Result<(), Refusal> {
+        self.work.under(id)?;
+        refuse(matches!(self.work, Work::Agreed { .. }), Refusal::Stage)?;
+        self.work = Work::None;
+        Ok(())
+    }
+
+    /// Kind 4: "15; 17 both empty, overlapping or outside the work; 18 not agreed;
+    /// 19 a cleared turnout in a or b; 22 b not empty under verbal"; "a, b open to work".
+    fn detection_off(&mut self, id: u32, lost: Set, portable: Set) -> Result<(), Refusal> {
+        let works = self.work.under(id)?;
+        let both_empty = lost | portable == 0;
+        let overlapping = lost & portable != 0;
+        let outside = (lost | portable) & !works.turnouts != 0;
+        refuse(both_empty || overlapping || outside, Refusal::Place)?;
+        let Work::Agreed { open, .. } = &mut self.work else {
+            return Err(Refusal::Stage);
+        };
+        refuse((lost | portable) & self.movement.cleared() != 0, Refusal::Conflict)?;
+        refuse(portable != 0 && works.form == Form::RecordedVerbal, Refusal::Regime)?;
+        *open |= lost | portable;
+        Ok(())
+    }
+
+    /// Kind 5: "16 movement in zone; 17 route not below R or of another zone"; "movement asked".
+    fn movement_asked(&mut self, station: &'s Station, zone: u8, id: u32, route: u8) -> Result<(), Refusal> {
+        refuse(self.movement != Movement::None, Refusal::Occupied)?;
+        let below = station.routes.get(usize::from(route));
+        let route = below.filter(|route| route.zone == zone).ok_or(Refusal::Place)?;
+        self.movement = Movement::Standing(Train { id, route, ordered: false, cleared: 0, efficient: 0 });
+        Ok(())
+    }
+
+    /// Kind 6: "15; 16 cleared already; 17 not under agreed work or not named; 20; 21"; "cleared, shut to work".
+    fn cleared(&mut self, station: &Station, id: u32, clearance: Clearance) -> Result<(), Refusal> {
+        let mut train = self.movement.under(id)?;
+        let n = clearance.turnout;
+        refuse(holds(train.cleared, n), Refusal::Occupied)?;
+        let worked = holds(self.work.agreed_turnouts(), n);
+        let named = holds(train.route.named(), n);
+        let turnout = station.turnout(n).filter(|_| worked && named).ok_or(Refusal::Place)?;
+        refuse(!clearance.fits(train.route, turnout.drive), Refusal::Unfit)?;
+        refuse(!clearance.channel_fits(self.recorder_working), Refusal::Channel)?;
+        train.cleared |= only(n);
+        if clearance.all_efficient() {
+            train.efficient |= only(n);
+        }
+        self.movement = Movement::Standing(train);
+        self.work.shut(only(n));
+        Ok(())
+    }
+
+    /// Kind 7: "15; 18 ordered already; 22"; "Order 22: clear needs clear; danger needs not held."
+    fn ordered(&mut self, id: u32, aspect: Aspect) -> Result<(), Refusal> {
+        let train = self.movement.under(id)?;
+        refuse(train.ordered, Refusal::Stage)?;
+        let regime = self.standing(id)?.regime;
+        let fits = match aspect {
+            Aspect::Clear => regime == Regime::Clear,
+            Aspect::Danger => regime != Regime::Held,
+        };
+        refuse(!fits, Refusal::Regime)?;
+        self.movement = Movement::Standing(Train { ordered: true, ..train });
+        Ok(())
+    }
+
+    /// Kind 8: "15; 18 not ordered"; "no movement or clearance".
+    fn passed(&mut self, id: u32) -> Result<(), Refusal> {
+        let train = self.movement.under(id)?;
+        refuse(!train.ordered, Refusal::Stage)?;
+        self.movement = Movement::None;
+        Ok(())
+    }
+
+    /// Kind 9: "15; 18 ordered"; "no movement or clearance".
+    fn cancelled(&mut self, id: u32) -> Result<(), Refusal> {
+        let train = self.movement.under(id)?;
+        refuse(train.ordered, Refusal::Stage)?;
+        self.movement = Movement::None;
+        Ok(())
+    }
+
+    /// Kind 10: "15; 17 a empty, not a proper part of the work, or splitting a crossover;
+    /// 18 not agreed; 19; 22 under M.45 (2.13)"; "a leaves the work, shut to work".
+    fn part_restored(&mut self, station: &Station, id: u32, part: Set) -> Result<(), Refusal> {
+        let works = self.work.under(id)?;
+        let proper_part = part & !works.turnouts == 0 && part != works.turnouts;
+        let splitting = station.splits_crossover(part);
+        refuse(part == 0 || !proper_part || splitting, Refusal::Place)?;
+        let Work::Agreed { works, .. } = &mut self.work else {
+            return Err(Refusal::Stage);
+        };
+        refuse(self.movement.names(part), Refusal::Conflict)?;
+        refuse(works.form == Form::M45, Refusal::Regime)?;
+        works.turnouts &= !part;
+        self.work.shut(part);
+        Ok(())
+    }
+
+    /// Kind 11: "15; 18 not agreed; 19"; "no work". 01: "whole minutes since agreement,
+    /// seconds divided by 60 and cut".
+    fn all_restored(&mut self, id: u32, time: u32) -> Result<u32, Refusal> {
+        let works = self.work.under(id)?;
+        let Work::Agreed { since, .. } = self.work else {
+            return Err(Refusal::Stage);
+        };
+        refuse(self.movement.names(works.turnouts), Refusal::Conflict)?;
+        self.work = Work::None;
+        Ok(time.saturating_sub(since) / 60)
+    }
+}

@@ -1,0 +1,232 @@
+//! The cases of 01, "Station K", and a few more of the words above it.
+
+use reference::builders::*;
+use reference::desk::Desk;
+use reference::history::History;
+use reference::message::{self, Message};
+use reference::refusal::{number, Refusal};
+use reference::sheet::{self, SheetFault};
+use reference::signals::{verdict, Verdict};
+use reference::station::Station;
+use reference::zone::Regime;
+use reference::{journal, replay};
+
+fn station() -> Station {
+    sheet::read(&station_k().bytes()).expect("station K reads")
+}
+
+/// The code of the last message, on a fresh desk of station K; those before it are accepted.
+fn last_code(messages: &[Message]) -> u8 {
+    let station = station();
+    let mut desk = Desk::fresh(&station);
+    let (last, before) = messages.split_last().expect("a message");
+    for message in before {
+        assert_eq!(number(&desk.hear(message)), 0, "{message:?}");
+    }
+    number(&desk.hear(last))
+}
+
+/// The work question after the first `n` records of the journal.
+fn open_after(n: usize, turnout: u8) -> bool {
+    let station = station();
+    let mut desk = Desk::fresh(&station);
+    for message in &journal_k()[..n] {
+        let _ = desk.hear(message);
+    }
+    desk.work_question(turnout).expect("a turnout of K")
+}
+
+fn verbal_work_on_2() -> Vec<Message> {
+    vec![work_asked(7, 2, &[2]), agreed(7)]
+}
+
+fn with(mut list: Vec<Message>, more: &[Message]) -> Vec<Message> {
+    list.extend(more);
+    list
+}
+
+#[test]
+fn sheet_has_50_bytes() {
+    let sheet = station_k().bytes();
+    assert_eq!(sheet.len(), 50);
+    assert_eq!(sheet::read(&sheet[..49]), Err(SheetFault::Length));
+    assert_eq!(sheet::read(&[&sheet[..], &[0]].concat()), Err(SheetFault::Length));
+}
+
+#[test]
+fn journal_gives_the_printed_output() {
+    let mut buffer = [0xAA; 60];
+    assert_eq!(replay::replay(&station_k().bytes(), &journal(&journal_k()), &mut buffer), 0);
+    let printed: Vec<(u8, u32)> =
+        buffer[..55].chunks(5).map(|answer| (answer[0], u32::from_be_bytes(answer[1..].try_into().unwrap()))).collect();
+    let expected = [0, 0, 0, 0, 22, 0, 22, 0, 19, 0].map(|code| (code, 0));
+    assert_eq!(printed[..10], expected);
+    assert_eq!(printed[10], (0, 1));
+    assert_eq!(buffer[55..], [0xAA; 5]);
+}
+
+#[test]
+fn open_to_work_along_the_journal() {
+    assert!(open_after(3, 0) && open_after(3, 1));
+    assert!(!open_after(6, 0) && open_after(6, 1));
+    assert!(!open_after(10, 0) && open_after(10, 1));
+    assert!(!open_after(11, 0) && !open_after(11, 1));
+    assert!((0..=11).all(|n| !open_after(n, 2)));
+}
+
+#[test]
+fn asking_for_work_on_a_fresh_desk() {
+    assert_eq!(last_code(&[work_asked(7, 1, &[0])]), 17);
+    assert_eq!(last_code(&[work_asked(7, 1, &[0, 1])]), 0);
+    assert_eq!(last_code(&[work_asked(7, 1, &[3])]), 17);
+    assert_eq!(last_code(&[work_asked(7, 1, &[0, 1, 3])]), 17);
+    assert_eq!(last_code(&[work_asked(7, 1, &[])]), 17);
+}
+
+#[test]
+fn portable_device_under_verbal() {
+    assert_eq!(last_code(&with(verbal_work_on_2(), &[detection_off(7, &[], &[2])])), 22);
+    assert_eq!(last_code(&with(verbal_work_on_2(), &[detection_off(7, &[2], &[])])), 0);
+}
+
+#[test]
+fn declarations_for_a_hand_flank_turnout() {
+    let standing = with(verbal_work_on_2(), &[movement_asked(512, 0)]);
+    assert_eq!(last_code(&with(standing.clone(), &[cleared(512, [2, 3, 0, 0, 1])])), 20);
+    assert_eq!(last_code(&with(standing.clone(), &[cleared(512, [2, 8, 0, 1, 1])])), 20);
+    assert_eq!(last_code(&with(standing, &[cleared(512, [2, 8, 0, 0, 1])])), 0);
+}
+
+#[test]
+fn recorder_out() {
+    let out = with(verbal_work_on_2(), &[movement_asked(512, 0), recorder(0)]);
+    assert_eq!(last_code(&with(out.clone(), &[cleared(512, [2, 8, 0, 0, 1])])), 21);
+    assert_eq!(last_code(&with(out, &[cleared(512, [2, 8, 0, 0, 2])])), 0);
+}
+
+#[test]
+fn clock_of_the_zone() {
+    assert_eq!(last_code(&[recorder(0).at(100), recorder(1).at(100)]), 0);
+    assert_eq!(last_code(&[recorder(0).at(100), recorder(1).at(99)]), 14);
+}
+
+#[test]
+fn minutes_of_work() {
+    for (seconds, minutes) in [(0, 0), (59, 0), (60, 1), (119, 1), (120, 2)] {
+        let station = station();
+        let mut desk = Desk::fresh(&station);
+        assert_eq!(desk.hear(&work_asked(7, 1, &[2])), Ok(0));
+        assert_eq!(desk.hear(&agreed(7).at(1000)), Ok(0));
+        assert_eq!(desk.hear(&all_restored(7).at(1000 + seconds)), Ok(minutes));
+    }
+}
+
+#[test]
+fn verdicts_by_day() {
+    assert_eq!(verdict(1, 1, 2), Ok(Verdict::DarkBlockOut));
+    assert_eq!(verdict(1, 2, 2), Ok(Verdict::Dark));
+    assert_eq!(verdict(2, 1, 2), Ok(Verdict::ClosureOnly));
+    assert_eq!(verdict(0, 1, 2), Err(Refusal::Range));
+    assert_eq!(verdict(3, 5, 1), Ok(Verdict::AtDanger));
+}
+
+#[test]
+fn record_1024_fits_the_next_does_not() {
+    let record = recorder(1).to_bytes();
+    let mut lent = vec![0; 16 + 32 * 1025];
+    lent[..16].copy_from_slice(&journal_header(0));
+    for n in 0..1024 {
+        assert_eq!(journal::check(&lent), Ok(n));
+        assert_eq!(journal::add(&mut lent, &record), Ok(()));
+    }
+    assert_eq!(journal::check(&lent), Ok(1024));
+    let full = lent.clone();
+    assert_eq!(journal::add(&mut lent, &record), Err(Refusal::Full));
+    assert_eq!(lent, full);
+    assert_eq!(journal::record(&lent, 1023), Ok(&record[..]));
+    assert_eq!(journal::record(&lent, 1024), Err(Refusal::NoRecord));
+}
+
+#[test]
+fn movement_question_along_the_journal() {
+    let station = station();
+    let mut desk = Desk::fresh(&station);
+    assert_eq!(desk.movement_question(1, 512), Err(Refusal::Zone));
+    assert_eq!(desk.movement_question(0, 512), Err(Refusal::UnknownId));
+    for (n, message) in journal_k().iter().enumerate() {
+        let _ = desk.hear(message);
+        match (n + 1, desk.movement_question(0, 512)) {
+            (4 | 5, Ok(answer)) => {
+                assert_eq!((answer.regime, answer.lowest, answer.count), (Regime::Held, Some(0), 1))
+            }
+            (6..=9, Ok(answer)) => {
+                assert_eq!((answer.regime, answer.lowest, answer.count), (Regime::Danger, None, 0))
+            }
+            (_, answer) => assert_eq!(answer, Err(Refusal::UnknownId)),
+        }
+    }
+}
+
+#[test]
+fn errors_that_would_pass_a_glance() {
+    // The next train needs a clearance of its own.
+    let first = [
+        work_asked(7, 1, &[0, 1]),
+        agreed(7),
+        movement_asked(512, 0),
+        cleared(512, [0, 1, 0, 0, 1]),
+        ordered(512, 1),
+        passed(512),
+        movement_asked(513, 0),
+    ];
+    assert_eq!(last_code(&with(first.to_vec(), &[ordered(513, 2)])), 22);
+    // Agreement to work on a turnout that a standing movement names.
+    assert_eq!(last_code(&[movement_asked(512, 0), work_asked(7, 1, &[2]), agreed(7)]), 19);
+    // A refused message does not move the clock.
+    let station = station();
+    let mut desk = Desk::fresh(&station);
+    assert_eq!(desk.hear(&agreed(7).at(500)), Err(Refusal::UnknownId));
+    assert_eq!(desk.hear(&recorder(1).at(10)), Ok(0));
+}
+
+#[test]
+fn history_of_the_journal() {
+    let station = station();
+    let mut desk = Desk::fresh(&station);
+    let mut accepted = Vec::new();
+    for message in journal_k() {
+        if desk.hear(&message).is_ok() {
+            accepted.push(message);
+        }
+        let history = History(&accepted);
+        for turnout in 0..3 {
+            assert_eq!(desk.work_question(turnout), Ok(history.open_to_work(turnout)));
+            assert!(!(history.open_to_work(turnout) && history.cleared(turnout)));
+        }
+        if let Some(asked) = history.standing() {
+            let clear = desk.movement_question(0, asked.id).expect("stands").regime == Regime::Clear;
+            let good = (0..3)
+                .filter(|&turnout| history.route(&station).is_some_and(|route| route.named() >> turnout & 1 == 1))
+                .filter(|&turnout| history.under_agreed_work(turnout))
+                .all(|turnout| history.good_clearance(&station, turnout));
+            assert_eq!(clear, good);
+        }
+    }
+    assert_eq!(accepted.len(), 8);
+}
+
+#[test]
+fn refusals_of_records_and_writing() {
+    let good = work_asked(7, 1, &[0]).to_bytes();
+    assert_eq!(message::read(&good), Ok(work_asked(7, 1, &[0])));
+    assert_eq!(message::read(&good[..31]), Err(Refusal::RecordLength));
+    let mut bad = good;
+    bad[0] = 13;
+    assert_eq!(message::read(&bad), Err(Refusal::Kind));
+    let mut buffer = [9; 32];
+    assert_eq!(message::write(&Message::from_bytes(&bad), &mut buffer), Err(Refusal::Field));
+    assert_eq!(message::write(&Message::from_bytes(&bad), &mut buffer[..31]), Err(Refusal::RecordLength));
+    assert_eq!(buffer, [9; 32]);
+    assert_eq!(message::write(&work_asked(7, 1, &[0]), &mut buffer), Ok(()));
+    assert_eq!(buffer, good);
+}

@@ -1,0 +1,81 @@
+// Cases of sheets, of a journal replayed, of both questions after it, and of verdicts.
+use super::numbers::put_number;
+use super::numbers::put_two;
+use zone::Regime;
+
+// Kind 1: the code of sheet a, and the index of its bad record.
+pub fn put_sheet(out: &mut [u8], at: usize, a: &[u8]) -> usize {
+    let read = sheet::read_sheet(a);
+    put_two(out, at, read.code as u32, read.index as u32)
+}
+
+// Puts the code and the minutes of answer i.
+fn put_one(out: &mut [u8], at: usize, answers: &[u8], i: u32) -> usize {
+    let place = report::ANSWER * (i as usize);
+    put_two(
+        out,
+        at,
+        bigendian::get8(answers, place) as u32,
+        bigendian::get32(answers, place + 1),
+    )
+}
+
+// Puts the first n answers.
+fn put_answers(out: &mut [u8], at: usize, answers: &[u8], n: u32) -> usize {
+    let mut next = at;
+    let mut i: u32 = 0;
+    while i < n {
+        next = put_one(out, next, answers, i);
+        i += 1;
+    }
+    next
+}
+
+// Kind 2: the code of journal b on sheet a; where it is 0 also each record's code and minutes. A journal has at most 1,024
+// records, and an answer takes 5 bytes.
+pub fn put_replay(out: &mut [u8], at: usize, a: &[u8], b: &[u8]) -> usize {
+    let mut answers = [0u8; 5120];
+    let code = history::replay(a, b, &mut answers);
+    let next = put_number(out, at, code as u32);
+    if code != 0 {
+        return next;
+    }
+    put_answers(out, next, &answers, journal::count(b))
+}
+
+// 0 held, 1 clear, 2 danger.
+fn regime_number(regime: Regime) -> u32 {
+    match regime {
+        Regime::Held => 0,
+        Regime::Clear => 1,
+        Regime::Danger => 2,
+    }
+}
+
+// Kind 3: the movement question after journal b on sheet a: code, regime, lowest, count.
+pub fn put_movement(out: &mut [u8], at: usize, a: &[u8], b: &[u8], zone: u8, train: u32) -> usize {
+    let answer = history::replay_movement(a, b, zone, train);
+    let regime = answer.regime;
+    let next = put_two(out, at, answer.code as u32, regime_number(regime));
+    put_two(out, next, answer.lowest, answer.count)
+}
+
+// Kind 4: the work question after journal b on sheet a: code, then 1 for yes and 0 for no.
+pub fn put_work(out: &mut [u8], at: usize, a: &[u8], b: &[u8], turnout: u8) -> usize {
+    let answer = history::replay_work(a, b, turnout);
+    put_two(out, at, answer.code as u32, answer.yes as u32)
+}
+
+// Kind 10: the verdict for line, signal and flags, the three lower bytes of x: code, verdict.
+pub fn put_verdict(out: &mut [u8], at: usize, x: u32) -> usize {
+    let line = (x / 65536 % 256) as u8;
+    let signal = (x / 256 % 256) as u8;
+    let flags = (x % 256) as u8;
+    let ruling = signals::judge(line, signal, flags);
+    put_two(
+        out,
+        at,
+        signals::ruling_code(ruling) as u32,
+        signals::ruling_verdict(ruling) as u32,
+    )
+}

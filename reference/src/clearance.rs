@@ -41,7 +41,7 @@ impl Clearance {
     }
 
     /// 01: "1, 2 either; 3-6 electric; 7-9 hand; Annex C".
-    fn fits_drive(&self, drive: Drive) -> bool {
+    pub fn fits_drive(&self, drive: Drive) -> bool {
         match self.declaration {
             1 | 2 => true,
             3..=6 => drive == Drive::Electric,
@@ -50,7 +50,7 @@ impl Clearance {
     }
 
     /// 01: "For 4, 6, 9: 1 if run over, else 0. For 8: 1 or 2 if run over, else 0 .. Others: 0."
-    fn clamp_fits(&self, run_over: bool) -> bool {
+    pub fn clamp_fits(&self, run_over: bool) -> bool {
         match (self.declaration, run_over) {
             (4 | 6 | 9, true) => self.clamp == Clamp::Clamp,
             (8, true) => self.clamp != Clamp::None,

@@ -112,7 +112,7 @@ fn partner_fits(records: &[u8], n: u8, partner: u8) -> bool {
 }
 
 /// 01: "Then R routes of 33 bytes: zone, then the sets run over, flank, exit zone, reverse."
-fn route_fields(record: &[u8]) -> Route {
+pub fn route_fields(record: &[u8]) -> Route {
     let set =
         |start: usize| -> Set { record[start..start + 8].iter().fold(0, |set, &byte| set << 8 | Set::from(byte)) };
     Route { zone: record[0], run_over: set(1), flank: set(9), exit_zone: set(17), reverse: set(25) }
@@ -128,7 +128,7 @@ fn route_fits(route: &Route, station: &Station) -> bool {
 }
 
 /// 01: "The first three are pairwise disjoint".
-fn pairwise_disjoint(route: &Route) -> bool {
+pub fn pairwise_disjoint(route: &Route) -> bool {
     let run_over_apart = route.run_over & (route.flank | route.exit_zone) == 0;
     let flank_apart = route.flank & route.exit_zone == 0;
     run_over_apart && flank_apart
@@ -140,17 +140,17 @@ fn lies_in_zone(route: &Route, station: &Station) -> bool {
 }
 
 /// 01: "reverse lies within the union".
-fn reverse_within_union(route: &Route) -> bool {
+pub fn reverse_within_union(route: &Route) -> bool {
     route.reverse & !route.named() == 0
 }
 
 /// 01: "A flank turnout's partner is flank too (Art. 3.24)."
-fn flank_with_partner(route: &Route, station: &Station) -> bool {
+pub fn flank_with_partner(route: &Route, station: &Station) -> bool {
     !station.splits_crossover(route.flank)
 }
 
 /// 01: "Both ends of a crossover, if named, have the same position."
-fn same_position(route: &Route, station: &Station) -> bool {
+pub fn same_position(route: &Route, station: &Station) -> bool {
     (0u8..).zip(&station.turnouts).all(|(n, turnout)| match turnout.partner {
         Some(partner) if holds(route.named(), n) && holds(route.named(), partner) => {
             route.position(n) == route.position(partner)

@@ -1,0 +1,59 @@
+//! What is timed: station K with rising times, and the largest station with a long conversation in all its zones.
+
+use reference::builders::{self, Sheet};
+use reference::message::Message;
+
+/// Records in each journal.
+pub const RECORDS: usize = 1024;
+
+pub fn station_k() -> Vec<u8> {
+    builders::station_k().bytes()
+}
+
+/// Station K's records again and again, each time later.
+pub fn talk_k() -> Vec<u8> {
+    let once = builders::journal_k();
+    let all: Vec<Message> = (0..RECORDS)
+        .map(|i| once[i % once.len()].at(once[i % once.len()].time + 300 * (i / once.len()) as u32))
+        .collect();
+    builders::journal(&all)
+}
+
+/// 8 zones of 4 electric crossovers, and in each zone 8 routes, each over one turnout.
+pub fn largest_station() -> Vec<u8> {
+    let mut sheet = Sheet::new(8);
+    for zone in 0..8 {
+        for _ in 0..4 {
+            sheet = sheet.crossover(zone, 0);
+        }
+    }
+    for route in 0..64 {
+        sheet = sheet.route(route / 8, &[route], &[], &[], &[]);
+    }
+    sheet.bytes()
+}
+
+/// A crossover worked on while a train crosses it, in each zone in turn; every message is accepted.
+pub fn long_talk() -> Vec<u8> {
+    let mut all = Vec::new();
+    for i in 0..RECORDS as u32 / 8 + 1 {
+        let zone = (i % 8) as u8;
+        let (a, b) = (8 * zone, 8 * zone + 1);
+        let (form, train) = (7 + i, 500 + i);
+        all.extend(
+            [
+                builders::work_asked(form, 1, &[a, b]),
+                builders::agreed(form),
+                builders::detection_off(form, &[a, b], &[]),
+                builders::movement_asked(train, a),
+                builders::cleared(train, [a, 3, 0, 0, 1]),
+                builders::ordered(train, 2),
+                builders::passed(train),
+                builders::all_restored(form),
+            ]
+            .map(|message| message.in_zone(zone).at(i)),
+        );
+    }
+    all.truncate(RECORDS);
+    builders::journal(&all)
+}

@@ -12,7 +12,7 @@ use Rattle.message.specs.Fields.{named, fieldsKept, fieldNumber}
 use Rattle.message.specs.Record.{decoded, headBytes, encoded, readRecord}
 use Rattle.zone.specs.Work.{minutesBetween}
 use Rattle.station.specs.Station.{tiedWith, tied, theRoute, zoneTurnouts, splits}
-use Rattle.sheet.specs.Layout.{headerNumber, valuesFrom, places, stationIn}
+use Rattle.layout.specs.Layout.{headerNumber, valuesFrom, places, stationIn}
 use Rattle.sheet.specs.Sheet.{goodTurnout, goodRoute, badTurnout, badRoute, judged, readSheet}
 use Rattle.zone.specs.Kinds.{row, workAfter, movementAfter, recorderAfter, minutesFor, zoneAfter, answered, heard}
 use Rattle.message.specs.declared.Message.{Message}

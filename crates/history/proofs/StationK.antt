@@ -12,7 +12,7 @@ use Rattle.message.specs.Fields.{named, fieldsKept, fieldNumber}
 use Rattle.message.specs.Record.{decoded, headBytes, encoded, readRecord, WriteAnswer}
 use Rattle.station.specs.declared.Station.{Station}
 use Rattle.station.specs.Station.{tiedWith, tied, zoneTurnouts, theRoute, splits}
-use Rattle.sheet.specs.Layout.{headerNumber, valuesFrom, places, stationIn}
+use Rattle.layout.specs.Layout.{headerNumber, valuesFrom, places, stationIn}
 use Rattle.sheet.specs.Sheet.{goodTurnout, goodRoute, badTurnout, badRoute, judged, readSheet}
 use Rattle.signals.specs.Answer as Verdicts
 use Rattle.zone.specs.Work.{minutesBetween}

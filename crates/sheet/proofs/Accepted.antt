@@ -14,10 +14,10 @@ use Rattle.sets.proofs.Ranges.{none-below}
 use Rattle.station.specs.declared.Station.{Station}
 use Rattle.sheet.specs.declared.Sheet.{Sheet}
 use Rattle.station.specs.Station.{emptyTurnout, emptyRoute, turnoutAt, routeAt, turnoutCount, routeCount, zoneCount, zoneOf, driveOf}
-use Rattle.sheet.specs.Layout.{hasMark, version, countP, countR, countZ, countsKept, sheetLength, headerNumber, turnoutIn, turnoutPlace, routeIn, routePlace, stationIn}
+use Rattle.layout.specs.Layout.{hasMark, version, countP, countR, countZ, countsKept, sheetLength, headerNumber, turnoutIn, turnoutPlace, routeIn, routePlace, stationIn}
 use Rattle.sheet.specs.Sheet.{partnerKept, goodTurnout, goodRoute, badTurnout, badRoute, refusedSheet, acceptedSheet, judged, readSheet}
 use Rattle.sheet.proofs.Joined.{three, five, either}
-use Rattle.sheet.proofs.Places.{places-past}
+use Rattle.layout.proofs.Places.{places-past}
 use Rattle.sheet.proofs.AcceptedRoute.{good-route}
 pub use Rattle.sheet.proofs.AcceptedRoute.{GoodRoute}
 

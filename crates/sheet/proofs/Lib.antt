@@ -1,4 +1,3 @@
-pub mod Places
 pub mod Joined
 pub mod AcceptedRoute
 pub mod Accepted

@@ -11,7 +11,7 @@ use Rattle.station.specs.declared.Route.{Route}
 use Rattle.station.specs.declared.Station.{Station}
 use Rattle.sheet.specs.declared.Sheet.{Sheet}
 use Rattle.station.specs.Station.{emptyStation, turnoutAt, routeAt, turnoutCount, routeCount, zoneCount, tied, namedBy, whole}
-use Rattle.sheet.specs.Layout.{headerNumber, stationIn}
+use Rattle.layout.specs.Layout.{headerNumber, stationIn}
 
 -- "A partner is below P, not itself, names it back, and has the same zone and drive": of turnout n, its record t and its
 -- partner's record o

@@ -1,20 +1,11 @@
-// The reader of station sheets (document 01, 'Station sheet'). The rules are in specs/: Layout.antt has the bytes, Sheet.antt
-// judging and reading. proofs/Accepted.antt has what an accepted sheet guarantees of its station.
+// The reader of station sheets (document 01, 'Station sheet'). The rules of judging and reading are in specs/Sheet.antt, those of the
+// bytes in the crate `layout`. proofs/Accepted.antt has what an accepted sheet guarantees of its station.
 ghost use mathlib.Core.Path.{_≡_};
 ghost use Rattle.sheet.specs.Sheet.{readSheet};
 
 mod judge;
-mod layout;
 
-// The numbers that refuse a sheet.
-pub const BAD_LENGTH: u8 = 1;
-
-pub const BAD_MARK: u8 = 2;
-
-pub const BAD_VERSION: u8 = 3;
-
-pub const BAD_COUNTS: u8 = 4;
-
+// The numbers that refuse a sheet by a record; those of its header and its length are in the crate `layout`.
 pub const BAD_TURNOUT: u8 = 5;
 
 pub const BAD_ROUTE: u8 = 6;

@@ -1,4 +1,4 @@
--- `sheet::layout::turnouts_in` meets its contract: the invariant is the table filled so far. Assumes nothing.
+-- `layout::turnouts_in` meets its contract: the invariant is the table filled so far. Assumes nothing.
 use mathlib.Core.Path.{_≡_, sym, ap, ap₂, _∙_}
 use mathlib.Core.List.{List}
 use Prim.Native.Nat.{ℕ, _-_, _≤_, _<_, min}
@@ -6,12 +6,12 @@ use native.Mathlib.Omega.{arith}
 use denote.Ref.{now}
 use lib.ListN.{set}
 use Rattle.station.specs.declared.Turnout.{Turnout}
-use Rattle.sheet.proofs.Places.{places-none, places-next, places-limit}
-use Rattle.sheet.specs.Layout.{places, turnoutIn, turnoutPlace}
+use Rattle.layout.proofs.Places.{places-none, places-next, places-limit}
+use Rattle.layout.specs.Layout.{places, turnoutIn, turnoutPlace}
 use Rattle.station.specs.Station.{emptyTurnout}
 use borrow.Author.Needs.{needs}
-use Rattle.sheet.proofs.layout.turnouts_in.Statement.{statement}
-use Rattle.sheet.proofs.layout.turnouts_in.Tie as tie
+use Rattle.layout.proofs.turnouts_in.Statement.{statement}
+use Rattle.layout.proofs.turnouts_in.Tie as tie
 
 -- record j of the sheet
 abbrev sheetTurnout : List ℕ → ℕ → Turnout

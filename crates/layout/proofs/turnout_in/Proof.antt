@@ -1,7 +1,7 @@
--- `sheet::layout::turnout_in` meets its contract: the rule, from what each call ensures. Assumes nothing.
+-- `layout::turnout_in` meets its contract: the rule, from what each call ensures. Assumes nothing.
 use borrow.Author.Needs.{needs}
-use Rattle.sheet.proofs.layout.turnout_in.Statement.{statement}
-use Rattle.sheet.proofs.layout.turnout_in.Tie as tie
+use Rattle.layout.proofs.turnout_in.Statement.{statement}
+use Rattle.layout.proofs.turnout_in.Tie as tie
 
 returns : tie.Need-returns
 returns c =

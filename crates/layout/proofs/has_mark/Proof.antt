@@ -1,7 +1,7 @@
--- `sheet::layout::has_mark` meets its contract: the rule, from what each call ensures. Assumes nothing.
+-- `layout::has_mark` meets its contract: the rule, from what each call ensures. Assumes nothing.
 use borrow.Author.Needs.{needs}
-use Rattle.sheet.proofs.layout.has_mark.Statement.{statement}
-use Rattle.sheet.proofs.layout.has_mark.Tie as tie
+use Rattle.layout.proofs.has_mark.Statement.{statement}
+use Rattle.layout.proofs.has_mark.Tie as tie
 
 returns : tie.Need-returns
 returns c =

@@ -1,8 +1,8 @@
--- `sheet::layout::header_code` meets its contract: the rule, from what each call ensures. Assumes nothing.
-use Rattle.sheet.specs.Layout.{headerNumber}
+-- `layout::header_code` meets its contract: the rule, from what each call ensures. Assumes nothing.
+use Rattle.layout.specs.Layout.{headerNumber}
 use borrow.Author.Needs.{needs}
-use Rattle.sheet.proofs.layout.header_code.Statement.{statement}
-use Rattle.sheet.proofs.layout.header_code.Tie as tie
+use Rattle.layout.proofs.header_code.Statement.{statement}
+use Rattle.layout.proofs.header_code.Tie as tie
 
 returns : tie.Need-returns
 unfolding headerNumber

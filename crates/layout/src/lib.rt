@@ -1,7 +1,8 @@
-// The bytes of a station sheet: its header's number, and the station that stands in them.
+// The bytes of a station sheet (document 01, 'Station sheet'): its header's number, and the station that stands in them. The rules
+// are in specs/Layout.antt. The crate `sheet` judges the station.
 ghost use mathlib.Core.Path.{_≡_};
 ghost use Prim.Native.Nat.{_<_};
-ghost use Rattle.sheet.specs.Layout.{
+ghost use Rattle.layout.specs.Layout.{
   hasMark,
   countsKept,
   headerNumber,
@@ -13,10 +14,6 @@ ghost use Rattle.sheet.specs.Layout.{
   stationIn,
 };
 ghost use Rattle.station.specs.Station.{emptyTurnout, emptyRoute};
-use super::BAD_COUNTS;
-use super::BAD_LENGTH;
-use super::BAD_MARK;
-use super::BAD_VERSION;
 use station::Route;
 use station::Station;
 use station::Turnout;
@@ -24,6 +21,15 @@ use station::first_code;
 use station::observe::at_most_64;
 use station::observe::no_routes;
 use station::observe::no_turnouts;
+
+// The numbers that refuse a sheet by its header or its length.
+pub const BAD_LENGTH: u8 = 1;
+
+pub const BAD_MARK: u8 = 2;
+
+pub const BAD_VERSION: u8 = 3;
+
+pub const BAD_COUNTS: u8 = 4;
 
 // The length of the header.
 const HEADER: usize = 8;

@@ -12,7 +12,7 @@ use borrow.Author.Tests.{eqb-true, eqb-false, lt-ltb, le-ltb, ltb-true, ltb-fals
 use lib.Dec.{eqb, ltb}
 use lib.ListN.{length, getD, set, replicate, length-set, List·getD-eq-default}
 use lib.Seq.{ext-getD, getD-set-same, getD-set-other}
-use Rattle.sheet.specs.Layout.{valuesFrom, places}
+use Rattle.layout.specs.Layout.{valuesFrom, places}
 
 module _ {A : Type 0} where
   length-values : (f : ℕ → A) (i k : ℕ) → length (valuesFrom f i k) ≡ k

@@ -1,8 +1,8 @@
--- `sheet::layout::station_in` meets its contract: the rule, from what each call ensures. Assumes nothing.
-use Rattle.sheet.specs.Layout.{stationIn}
+-- `layout::station_in` meets its contract: the rule, from what each call ensures. Assumes nothing.
+use Rattle.layout.specs.Layout.{stationIn}
 use borrow.Author.Needs.{needs}
-use Rattle.sheet.proofs.layout.station_in.Statement.{statement}
-use Rattle.sheet.proofs.layout.station_in.Tie as tie
+use Rattle.layout.proofs.station_in.Statement.{statement}
+use Rattle.layout.proofs.station_in.Tie as tie
 
 returns : tie.Need-returns
 unfolding stationIn

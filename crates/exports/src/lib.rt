@@ -1,20 +1,14 @@
 // The static library of the works desk, for firmware in C or Rust: numbers and byte slices only. A byte slice goes as a pointer and
-// a length; several values come back packed in one number, which specs/Packed.antt defines. Every function takes any bytes and any
-// numbers.
+// a length; several values come back packed in one number, which specs/Packed.antt and the crate `packed` define. Every function takes
+// any bytes and any numbers.
 ghost use mathlib.Core.Path.{_≡_};
 ghost use Rattle.message.specs.Record.{readRecord, written};
 ghost use Rattle.sheet.specs.Sheet.{readSheet};
 ghost use Rattle.journal.specs.Journal.{journalNumber, counted, recordNumber, added};
 ghost use Rattle.history.specs.Replay.{replayed, movementReplayed, workReplayed};
-ghost use Rattle.exports.specs.Packed.{
-  regimeNumber,
-  sheetPacked,
-  movementPacked,
-  workPacked,
-  recordPacked,
-};
+ghost use Rattle.packed.specs.Packed.{movementPacked, workPacked};
+ghost use Rattle.exports.specs.Packed.{sheetPacked, recordPacked};
 use message::Message;
-use zone::Regime;
 
 // Reads a sheet: its code, and 256 times the index of the bad record.
 #[no_mangle]
@@ -77,28 +71,12 @@ pub extern "C" fn desk_replay(sheet: &[u8], journal: &[u8], answers: &mut [u8]) 
     history::replay(sheet, journal, answers)
 }
 
-// The number of a regime: 0 held, 1 clear, 2 danger.
-fn regime_number(regime: Regime) -> u8
-    ensures { λ r. ⌜ r ≡ regimeNumber regime ⌝ }
-{
-    match regime {
-        Regime::Held => 0,
-        Regime::Clear => 1,
-        Regime::Danger => 2,
-    }
-}
-
 // The movement question after a journal: the code, the regime, the lowest turnout lacking a clearance, how many lack one, a byte each.
 #[no_mangle]
 pub extern "C" fn desk_movement(sheet: &[u8], journal: &[u8], zone: u8, train: u32) -> u64
     ensures { λ r. ⌜ r ≡ movementPacked (movementReplayed (now (sheet .entry)) (now (journal .entry)) zone train) ⌝ }
 {
-    let a = history::replay_movement(sheet, journal, zone, train);
-    let regime = a.regime;
-    (a.code as u64)
-        + 256 * (regime_number(regime) as u64)
-        + 65536 * (a.lowest as u64)
-        + 16777216 * (a.count as u64)
+    packed::movement_packed(history::replay_movement(sheet, journal, zone, train))
 }
 
 // The work question after a journal: the code, and 256 if the turnout is open to work.
@@ -106,11 +84,7 @@ pub extern "C" fn desk_movement(sheet: &[u8], journal: &[u8], zone: u8, train: u
 pub extern "C" fn desk_work(sheet: &[u8], journal: &[u8], turnout: u8) -> u32
     ensures { λ r. ⌜ r ≡ workPacked (workReplayed (now (sheet .entry)) (now (journal .entry)) turnout) ⌝ }
 {
-    let a = history::replay_work(sheet, journal, turnout);
-    if a.yes {
-        return (a.code as u32) + 256;
-    }
-    a.code as u32
+    packed::work_packed(history::replay_work(sheet, journal, turnout))
 }
 
 // 0 if the bytes are a journal, else 30.

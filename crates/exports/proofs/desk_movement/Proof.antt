@@ -1,26 +1,11 @@
--- `exports::desk_movement` meets its contract: the values of the answer are packed in one number. Assumes nothing.
+-- `exports::desk_movement` meets its contract: the answer is packed in one number. Assumes nothing.
 use borrow.Author.Needs.{needs}
 use Rattle.exports.proofs.desk_movement.Statement.{statement}
 use Rattle.exports.proofs.desk_movement.Tie as tie
 
 returns : tie.Need-returns
 returns c =
-    rw (c .before .before .regime-number .ensures, c .before .before .before .before .replay-movement .ensures)
+    rw (c .movement-packed .ensures, c .before .replay-movement .ensures)
 
 pub desk-movement-spec : {M : Type 1} → statement M
-desk-movement-spec =
-    tie.close
-    (tie.spec
-    (λ c κs. search needs)
-    (λ c. search needs)
-    (λ c κs. search needs)
-    (λ c. search needs)
-    (λ c. search needs)
-    (λ c. search needs)
-    (λ c. search needs)
-    (λ c. search needs)
-    (λ c. search needs)
-    (λ c. search needs)
-    (λ c. search needs)
-    (λ c. search needs)
-    returns)
+desk-movement-spec = tie.close (tie.spec (λ c κs. search needs) (λ c κs. search needs) returns)

@@ -42,7 +42,7 @@ number-past (suc w) s at past =
     let next : length s ≤ at + 1 = omega arith in
     rw (List·getD-eq-default s 0 past, number-past w s (at + 1) next, zero-mul)
 
-sets-append : (s : List ℕ) (at : ℕ) (xs ys : List ℕ) → sets s at (xs ++ ys) ≡ sets (sets s at xs) (at + length xs) ys
+pub sets-append : (s : List ℕ) (at : ℕ) (xs ys : List ℕ) → sets s at (xs ++ ys) ≡ sets (sets s at xs) (at + length xs) ys
 sets-append s at [] ys = rw add-zero
 sets-append s at (x ∷ xs) ys = rw (sets-append (set s at x) (suc at) xs ys, suc-add, add-suc)
 

@@ -1,0 +1,4 @@
+pub mod Same
+pub mod Typed
+pub mod RoundTrip
+pub mod Stores

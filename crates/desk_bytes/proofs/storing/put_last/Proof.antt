@@ -1,0 +1,45 @@
+-- `desk_bytes::storing::put_last` meets its contract: each field is stored where the one before ends. Assumes nothing.
+use denote.Ref.{now}
+use mathlib.Core.List.{[], _∷_, _++_}
+use mathlib.Core.Path.{refl, ap, _∙_}
+use Prim.Native.Nat.{ℕ, _+_}
+use native.Mathlib.Omega.{arith}
+use lib.ListN.{replicate}
+use lib.Seq.{sets}
+use Rattle.bigendian.specs.BigEndian.{beBytes}
+use Rattle.desk_bytes.specs.Encoding.{lastBytes}
+use Rattle.desk_bytes.proofs.Stores.{part-then}
+use borrow.Author.Needs.{needs}
+use Rattle.desk_bytes.proofs.storing.put_last.Statement.{statement}
+use Rattle.desk_bytes.proofs.storing.put_last.Tie as tie
+
+returns : tie.Need-returns
+unfolding lastBytes
+returns c =
+    let c4 = c .before .before in
+    let c3 = c4 .before .before .before .before in
+    let c2 = c3 .before .before .before .before in
+    let c1 = c2 .before .before .before .before in
+    let a = c1 .before .before .before .before .args in
+    let byte = c1 .before .recorder-byte in
+    let rest = beBytes 4 (a .time) ++ replicate 10 0 in
+    part-then (byte .result ∷ []) rest (now (a .s)) (a .at) (a .at + 1) refl (c1 .put8 .ensures)
+    (part-then (beBytes 4 (a .time)) (replicate 10 0) (c1 .put8 .last .0) (a .at + 1) (a .at + 5) (omega arith) (c2 .put32 .ensures)
+    (part-then (beBytes 8 0) (beBytes 2 0) (c2 .put32 .last .0) (a .at + 5) (a .at + 13) (omega arith) (c3 .put64 .ensures)
+    (c4 .put16 .ensures)))
+    ∙ ap (λ (x : ℕ). sets (now (a .s)) (a .at) (x ∷ rest)) (byte .ensures)
+
+pub put-last-spec : {M : Type 1} → statement M
+put-last-spec =
+    tie.close
+    (tie.spec
+    (λ c κs. search needs)
+    (λ c κs. search needs)
+    (λ c. search needs)
+    (λ c κs. search needs)
+    (λ c. search needs)
+    (λ c κs. search needs)
+    (λ c. search needs)
+    (λ c κs. search needs)
+    (λ c. search needs)
+    returns)

@@ -1,0 +1,49 @@
+-- `desk_bytes::storing::put_work_fields` meets its contract: each field is stored where the one before ends. Assumes nothing.
+use denote.Ref.{now}
+use mathlib.Core.List.{[], _∷_, _++_}
+use mathlib.Core.Path.{refl}
+use Prim.Native.Nat.{_+_}
+use native.Mathlib.Omega.{arith}
+use Rattle.bigendian.specs.BigEndian.{beBytes}
+use Rattle.desk_bytes.proofs.Stores.{part-then}
+use borrow.Author.Needs.{needs}
+use Rattle.desk_bytes.proofs.storing.put_work_fields.Statement.{statement}
+use Rattle.desk_bytes.proofs.storing.put_work_fields.Tie as tie
+
+returns : tie.Need-returns
+returns c =
+    let c6 = c .before .before in
+    let c5 = c6 .before .before .before .before in
+    let c4 = c5 .before .before .before .before in
+    let c3 = c4 .before .before .before .before in
+    let c2 = c3 .before .before .before .before in
+    let c1 = c2 .before .before .before .before in
+    let a = c1 .before .before .before .args in
+    let r5 = beBytes 8 (a .opened) in
+    let r4 = beBytes 4 (a .since) ++ r5 in
+    let r3 = beBytes 8 (a .set) ++ r4 in
+    let r2 = beBytes 4 (a .form) ++ r3 in
+    part-then (a .stage ∷ []) (a .manner ∷ r2) (now (a .s)) (a .at) (a .at + 1) refl (c1 .put8 .ensures)
+    (part-then (a .manner ∷ []) r2 (c1 .put8 .last .0) (a .at + 1) (a .at + 2) (omega arith) (c2 .put82 .ensures)
+    (part-then (beBytes 4 (a .form)) r3 (c2 .put82 .last .0) (a .at + 2) (a .at + 6) (omega arith) (c3 .put32 .ensures)
+    (part-then (beBytes 8 (a .set)) r4 (c3 .put32 .last .0) (a .at + 6) (a .at + 14) (omega arith) (c4 .put64 .ensures)
+    (part-then (beBytes 4 (a .since)) r5 (c4 .put64 .last .0) (a .at + 14) (a .at + 18) (omega arith) (c5 .put322 .ensures)
+    (c6 .put642 .ensures)))))
+
+pub put-work-fields-spec : {M : Type 1} → statement M
+put-work-fields-spec =
+    tie.close
+    (tie.spec
+    (λ c κs. search needs)
+    (λ c. search needs)
+    (λ c κs. search needs)
+    (λ c. search needs)
+    (λ c κs. search needs)
+    (λ c. search needs)
+    (λ c κs. search needs)
+    (λ c. search needs)
+    (λ c κs. search needs)
+    (λ c. search needs)
+    (λ c κs. search needs)
+    (λ c. search needs)
+    returns)

@@ -1,0 +1,11 @@
+-- `unit::unit_work` meets its contract: the answer is packed in one number. Assumes nothing.
+use borrow.Author.Needs.{needs}
+use Rattle.unit.proofs.unit_work.Statement.{statement}
+use Rattle.unit.proofs.unit_work.Tie as tie
+
+returns : tie.Need-returns
+returns c =
+    rw (c .work-packed .ensures, c .before .work .ensures)
+
+pub unit-work-spec : {M : Type 1} → statement M
+unit-work-spec = tie.close (tie.spec (λ c κs. search needs) (λ c κs. search needs) returns)

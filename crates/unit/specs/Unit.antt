@@ -1,0 +1,53 @@
+-- A unit: a desk kept in 520 bytes, heard by and asked of in place. Each call is refused by the sheet's number, then by 61 for bytes that
+-- no desk encodes to (also bytes of another length), then as the desk refuses it; a refusal leaves the bytes and the minutes as they were.
+use mathlib.Core.Bool.{cond, not, false}
+use mathlib.Core.List.{List}
+use Prim.Native.Nat.{ℕ}
+use lib.Dec.{eqb}
+use lib.ListN.{length}
+use Rattle.message.specs.Record.{WriteAnswer}
+use Rattle.sheet.specs.Sheet.{readSheet}
+use Rattle.desk.specs.declared.Applied.{Applied}
+use Rattle.desk.specs.declared.MovementAnswer.{MovementAnswer}
+use Rattle.desk.specs.declared.WorkAnswer.{WorkAnswer}
+use Rattle.desk.specs.Desk.{freshDesk, appliedRecord}
+use Rattle.desk.specs.Questions.{movementRefused, movementAnswered, workAnswered}
+use Rattle.desk_bytes.specs.Encoding.{deskBytes, deskIn, isDesk}
+
+-- the fresh desk in a buffer of its length
+unfoldable pub unitFresh : List ℕ → WriteAnswer
+unitFresh desk =
+    cond (eqb (length desk) 520) (record { code = 0; bytes = deskBytes freshDesk }) (record { code = 61; bytes = desk })
+
+-- what hearing a record leaves: the code, the desk's bytes, the minutes
+pub record UnitAnswer : Type 0 where
+  pub code : ℕ
+  pub bytes : List ℕ
+  pub minutes : ℕ
+
+-- the answer of the desk, stored where it accepts
+unfoldable pub kept : List ℕ → ℕ → Applied → UnitAnswer
+kept desk minutes a =
+    cond (eqb (a .code) 0)
+    (record { code = 0; bytes = deskBytes (a .desk); minutes = a .minutes })
+    (record { code = a .code; bytes = desk; minutes = minutes })
+
+-- a record heard by the unit
+unfoldable pub unitApplied : List ℕ → List ℕ → List ℕ → ℕ → UnitAnswer
+unitApplied sheet desk bytes minutes =
+    cond (not (eqb (readSheet sheet .code) 0)) (record { code = readSheet sheet .code; bytes = desk; minutes = minutes })
+    (cond (not (isDesk desk)) (record { code = 61; bytes = desk; minutes = minutes })
+    (kept desk minutes (appliedRecord (readSheet sheet .station) (deskIn desk) bytes)))
+
+-- the two questions; a refusal has the values of the desk's refusal
+unfoldable pub unitMovement : List ℕ → List ℕ → ℕ → ℕ → MovementAnswer
+unitMovement sheet desk zone train =
+    cond (not (eqb (readSheet sheet .code) 0)) (movementRefused (readSheet sheet .code))
+    (cond (not (isDesk desk)) (movementRefused 61)
+    (movementAnswered (readSheet sheet .station) (deskIn desk) zone train))
+
+unfoldable pub unitWork : List ℕ → List ℕ → ℕ → WorkAnswer
+unitWork sheet desk turnout =
+    cond (not (eqb (readSheet sheet .code) 0)) (record { code = readSheet sheet .code; yes = false })
+    (cond (not (isDesk desk)) (record { code = 61; yes = false })
+    (workAnswered (readSheet sheet .station) (deskIn desk) turnout))

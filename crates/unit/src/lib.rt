@@ -1,0 +1,97 @@
+// The unit: a desk kept in 520 bytes by the caller, for firmware in C or Rust that hears one record at a time. A byte slice goes as a
+// pointer and a length. The rules are in specs/Unit.antt, the desk's bytes in the crate `desk_bytes`. Every function takes any bytes and
+// any numbers. proofs/OneByOne.antt has that records heard one by one get what replaying them gives.
+ghost use mathlib.Core.Path.{_≡_};
+ghost use Rattle.packed.specs.Packed.{movementPacked, workPacked};
+ghost use Rattle.unit.specs.Unit.{unitFresh, unitApplied, unitMovement, unitWork};
+use desk::Desk;
+use desk::MovementAnswer;
+use desk::WorkAnswer;
+
+// The number that refuses bytes that no desk encodes to.
+pub const NOT_A_DESK: u8 = 61;
+
+// Stores the fresh desk. Refused by 61 for a buffer of another length than a desk's.
+#[no_mangle]
+pub extern "C" fn unit_fresh(desk: &mut [u8]) -> u8
+    ensures { λ r. ⌜ record { code = r; bytes = now (desk .exit) } ≡ unitFresh (now (desk .entry)) ⌝ }
+{
+    if desk.len() != desk_bytes::LENGTH {
+        return NOT_A_DESK;
+    }
+    desk_bytes::encode(Desk::fresh(), desk);
+    0
+}
+
+// Hears a record; where it is accepted, stores the desk then and the minutes. Refused by the sheet's number, by 61, then as the desk
+// refuses the record.
+#[no_mangle]
+pub extern "C" fn unit_apply(sheet: &[u8], desk: &mut [u8], record: &[u8], minutes: &mut u32) -> u8
+    ensures { λ r. ⌜ record { code = r; bytes = now (desk .exit); minutes = now (minutes .exit) } ≡ unitApplied (now (sheet .entry)) (now (desk .entry)) (now («record» .entry)) (now (minutes .entry)) ⌝ }
+{
+    let read = sheet::read_sheet(sheet);
+    if read.code != 0 {
+        return read.code;
+    }
+    let d = desk_bytes::decode(desk);
+    if !desk_bytes::is_encoding(desk, d) {
+        return NOT_A_DESK;
+    }
+    let a = desk::apply_record(read.station, d, record);
+    if a.code != 0 {
+        return a.code;
+    }
+    desk_bytes::encode(a.desk, desk);
+    *minutes = a.minutes;
+    0
+}
+
+fn movement(sheet: &[u8], desk: &[u8], zone: u8, train: u32) -> MovementAnswer
+    ensures { λ r. ⌜ r ≡ unitMovement (now (sheet .entry)) (now (desk .entry)) zone train ⌝ }
+{
+    let read = sheet::read_sheet(sheet);
+    if read.code != 0 {
+        return desk::movement_refused(read.code);
+    }
+    let d = desk_bytes::decode(desk);
+    if !desk_bytes::is_encoding(desk, d) {
+        return desk::movement_refused(NOT_A_DESK);
+    }
+    desk::query_movement(read.station, d, zone, train)
+}
+
+// The movement question: the code, the regime, the lowest turnout lacking a clearance, how many lack one, a byte each.
+#[no_mangle]
+pub extern "C" fn unit_movement(sheet: &[u8], desk: &[u8], zone: u8, train: u32) -> u64
+    ensures { λ r. ⌜ r ≡ movementPacked (unitMovement (now (sheet .entry)) (now (desk .entry)) zone train) ⌝ }
+{
+    packed::movement_packed(movement(sheet, desk, zone, train))
+}
+
+fn work(sheet: &[u8], desk: &[u8], turnout: u8) -> WorkAnswer
+    ensures { λ r. ⌜ r ≡ unitWork (now (sheet .entry)) (now (desk .entry)) turnout ⌝ }
+{
+    let read = sheet::read_sheet(sheet);
+    if read.code != 0 {
+        return WorkAnswer {
+            code: read.code,
+            yes: false,
+        };
+    }
+    let d = desk_bytes::decode(desk);
+    if !desk_bytes::is_encoding(desk, d) {
+        return WorkAnswer {
+            code: NOT_A_DESK,
+            yes: false,
+        };
+    }
+    desk::query_work(read.station, d, turnout)
+}
+
+// The work question: the code, and 256 if the turnout is open to work.
+#[no_mangle]
+pub extern "C" fn unit_work(sheet: &[u8], desk: &[u8], turnout: u8) -> u32
+    ensures { λ r. ⌜ r ≡ workPacked (unitWork (now (sheet .entry)) (now (desk .entry)) turnout) ⌝ }
+{
+    packed::work_packed(work(sheet, desk, turnout))
+}

@@ -17,13 +17,12 @@ abbrev place : ℕ → ℕ → ℕ → ℕ
 place line signal flags = ((line - 1) * 6 + signal) * 64 + flags
 
 -- the rule's verdict for the line, the signal and the flags whose place is k
-unfoldable ruleAt : ℕ → ℕ
-unfolding verdictRule
+abbrev ruleAt : ℕ → ℕ
 ruleAt k = verdictRule (k / 384 + 1) (k / 64 % 6) (k % 64)
 
 -- the test of one entry: x at place k is the rule's verdict, and stands for itself, which is to say that it is one of 1 to 6
 unfoldable right : ℕ → ℕ → Bool
-unfolding ruleAt
+unfolding verdictRule
 right k x = eqb x (ruleAt k) && eqb (verdictOf x) x
 
 -- the test of the whole table
@@ -35,6 +34,21 @@ holdsRule xs = eqb (length xs) 1152 && every right 0 xs
 by-test : (b : Bool) (m n : ℕ) → (b ≡ true → m ≡ n) → m ≡ cond b n m
 by-test true m n given = given refl
 by-test false m n given = refl
+
+-- the entry at a place stands for the rule's verdict there, in a table that passes the test
+at-place : (xs : List ℕ) → holdsRule xs ≡ true → (k : ℕ) → k < 1152 → verdictOf (getD xs k 0) ≡ ruleAt k
+unfolding holdsRule right
+at-place xs passed k below =
+    let x : ℕ = getD xs k 0 in
+    let whole = and-eq-true-iff (eqb (length xs) 1152) (every right 0 xs) .0 passed in
+    let long : length xs ≡ 1152 = eqb-true (length xs) 1152 (whole .0) in
+    let here = and-eq-true-iff (eqb x (ruleAt k)) (eqb (verdictOf x) x) .0 (at right xs (whole .1) k (omega arith)) in
+    eqb-true (verdictOf x) x (here .1) ∙ eqb-true x (ruleAt k) (here .0)
+
+-- the same for a table that stands in a goal, where the test computes
+pub entry :
+    (k : ℕ) → k < 1152 → (xs : List ℕ) → verdictOf (getD xs k 0) ≡ cond (holdsRule xs) (ruleAt k) (verdictOf (getD xs k 0))
+entry k below xs = by-test (holdsRule xs) _ _ (λ passed. at-place xs passed k below)
 
 -- a line, a signal and flags in range
 pub record InRange (line signal flags : ℕ) : Type 0 where
@@ -60,30 +74,10 @@ module _ {line signal flags : ℕ} (r : InRange line signal flags) where
   place-in = omega arith
 
   -- the rule at their place is their rule
-  rule-at-place : ruleAt (place line signal flags) ≡ verdictRule line signal flags
-  unfolding ruleAt
+  pub rule-at-place : ruleAt (place line signal flags) ≡ verdictRule line signal flags
   rule-at-place =
       let k : ℕ = place line signal flags in
       let of-line : k / 384 + 1 ≡ line = omega arith in
       let of-signal : k / 64 % 6 ≡ signal = omega arith in
       let of-flags : k % 64 ≡ flags = omega arith in
       rw (of-line, of-signal, of-flags)
-
-  -- the entry at their place stands for the rule's verdict, in a table that passes the test
-  at-place :
-      (xs : List ℕ) → holdsRule xs ≡ true → verdictOf (getD xs (place line signal flags) 0) ≡ verdictRule line signal flags
-  unfolding holdsRule right
-  at-place xs passed =
-      let k : ℕ = place line signal flags in
-      let x : ℕ = getD xs k 0 in
-      let whole = and-eq-true-iff (eqb (length xs) 1152) (every right 0 xs) .0 passed in
-      let long : length xs ≡ 1152 = eqb-true (length xs) 1152 (whole .0) in
-      let here = and-eq-true-iff (eqb x (ruleAt k)) (eqb (verdictOf x) x) .0 (at right xs (whole .1) k (omega arith)) in
-      eqb-true (verdictOf x) x (here .1) ∙ eqb-true x (ruleAt k) (here .0) ∙ rule-at-place
-
-  -- the same for a table that stands in a goal, where the test computes
-  pub entry :
-      (xs : List ℕ) →
-      verdictOf (getD xs (place line signal flags) 0) ≡
-      cond (holdsRule xs) (verdictRule line signal flags) (verdictOf (getD xs (place line signal flags) 0))
-  entry xs = by-test (holdsRule xs) _ _ (at-place xs)

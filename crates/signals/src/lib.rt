@@ -6,8 +6,6 @@ ghost use Rattle.signals.specs.Table.{verdictOf};
 
 mod table;
 
-use table::VERDICTS;
-
 // Document 01's verdicts 1 to 6.
 pub enum Verdict {
     AtDanger,
@@ -32,7 +30,7 @@ pub fn judge(line: u8, signal: u8, flags: u8) -> Ruling
         return Ruling::OutOfRange;
     }
     let at = ((line as usize - 1) * 6 + signal as usize) * 64 + flags as usize;
-    Ruling::Given(verdict_of(VERDICTS[at]))
+    Ruling::Given(verdict_of(table::held(at)))
 }
 
 // The verdict that an entry of the table stands for.

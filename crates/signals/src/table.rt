@@ -1,3 +1,9 @@
+ghost use mathlib.Core.Path.{_≡_};
+ghost use Prim.Native.Nat.{ℕ, _+_, _*_, _/_, _%_, _<_, _≤_, _^_};
+ghost use lib.ListN.{getD};
+ghost use Rattle.signals.specs.Signals.{verdictRule};
+ghost use Rattle.signals.specs.Table.{verdictOf};
+
 // The verdicts for works on signals (document 01): one entry for each line, signal and flags, at
 // ((line - 1) x 6 + signal) x 64 + flags.
 pub const VERDICTS: [u8; 1152] = [
@@ -1154,3 +1160,211 @@ pub const VERDICTS: [u8; 1152] = [
     5,
     5,
 ];
+
+// The entry at a place stands for the rule's verdict on the line, the signal and the flags of that place.
+pub fn held(at: usize) -> u8
+    requires { ⌜ at < 1152 ⌝ }
+    ensures { λ r. ⌜ verdictOf r ≡ verdictRule (at / 384 + 1) (at / 64 % 6) (at % 64) ⌝ }
+{
+    entry(&VERDICTS, at)
+}
+
+// The entry of a table at a place. A table that is read at a place which only the call knows is built anew on the stack at each call;
+// read at written places alone, as in `word` below, it becomes constant memory of the program.
+fn entry(table: &[u8; 1152], at: usize) -> u8
+    requires { ⌜ at < 1152 ⌝ }
+    ensures { λ r. ⌜ r ≡ getD (now (table .entry)) at 0 ⌝ }
+{
+    digit(word(table, at / 8), at % 8)
+}
+
+// The i-th digit of a word to the base 256, the least first.
+fn digit(word: u64, i: usize) -> u8
+    requires { ⌜ i < 8 ⌝ }
+    ensures { λ r. ⌜ r ≡ word / 2 ^ (8 * i) % 256 ⌝ }
+{
+    ((word >> (8 * i)) % 256) as u8
+}
+
+// The n-th eight entries of a table in one word. (The arm that is never taken answers with no word of the table: the compiler then
+// makes one table of the arms.)
+fn word(table: &[u8; 1152], n: usize) -> u64
+    requires { ⌜ n < 144 ⌝ }
+    ensures { λ r. ⌜ ((i : ℕ) → i < 8 → r / 2 ^ (8 * i) % 256 ≡ getD (now (table .entry)) (8 * n + i) 0) ⌝ }
+{
+    match n {
+        0 => eight(table, 0),
+        1 => eight(table, 8),
+        2 => eight(table, 16),
+        3 => eight(table, 24),
+        4 => eight(table, 32),
+        5 => eight(table, 40),
+        6 => eight(table, 48),
+        7 => eight(table, 56),
+        8 => eight(table, 64),
+        9 => eight(table, 72),
+        10 => eight(table, 80),
+        11 => eight(table, 88),
+        12 => eight(table, 96),
+        13 => eight(table, 104),
+        14 => eight(table, 112),
+        15 => eight(table, 120),
+        16 => eight(table, 128),
+        17 => eight(table, 136),
+        18 => eight(table, 144),
+        19 => eight(table, 152),
+        20 => eight(table, 160),
+        21 => eight(table, 168),
+        22 => eight(table, 176),
+        23 => eight(table, 184),
+        24 => eight(table, 192),
+        25 => eight(table, 200),
+        26 => eight(table, 208),
+        27 => eight(table, 216),
+        28 => eight(table, 224),
+        29 => eight(table, 232),
+        30 => eight(table, 240),
+        31 => eight(table, 248),
+        32 => eight(table, 256),
+        33 => eight(table, 264),
+        34 => eight(table, 272),
+        35 => eight(table, 280),
+        36 => eight(table, 288),
+        37 => eight(table, 296),
+        38 => eight(table, 304),
+        39 => eight(table, 312),
+        40 => eight(table, 320),
+        41 => eight(table, 328),
+        42 => eight(table, 336),
+        43 => eight(table, 344),
+        44 => eight(table, 352),
+        45 => eight(table, 360),
+        46 => eight(table, 368),
+        47 => eight(table, 376),
+        48 => eight(table, 384),
+        49 => eight(table, 392),
+        50 => eight(table, 400),
+        51 => eight(table, 408),
+        52 => eight(table, 416),
+        53 => eight(table, 424),
+        54 => eight(table, 432),
+        55 => eight(table, 440),
+        56 => eight(table, 448),
+        57 => eight(table, 456),
+        58 => eight(table, 464),
+        59 => eight(table, 472),
+        60 => eight(table, 480),
+        61 => eight(table, 488),
+        62 => eight(table, 496),
+        63 => eight(table, 504),
+        64 => eight(table, 512),
+        65 => eight(table, 520),
+        66 => eight(table, 528),
+        67 => eight(table, 536),
+        68 => eight(table, 544),
+        69 => eight(table, 552),
+        70 => eight(table, 560),
+        71 => eight(table, 568),
+        72 => eight(table, 576),
+        73 => eight(table, 584),
+        74 => eight(table, 592),
+        75 => eight(table, 600),
+        76 => eight(table, 608),
+        77 => eight(table, 616),
+        78 => eight(table, 624),
+        79 => eight(table, 632),
+        80 => eight(table, 640),
+        81 => eight(table, 648),
+        82 => eight(table, 656),
+        83 => eight(table, 664),
+        84 => eight(table, 672),
+        85 => eight(table, 680),
+        86 => eight(table, 688),
+        87 => eight(table, 696),
+        88 => eight(table, 704),
+        89 => eight(table, 712),
+        90 => eight(table, 720),
+        91 => eight(table, 728),
+        92 => eight(table, 736),
+        93 => eight(table, 744),
+        94 => eight(table, 752),
+        95 => eight(table, 760),
+        96 => eight(table, 768),
+        97 => eight(table, 776),
+        98 => eight(table, 784),
+        99 => eight(table, 792),
+        100 => eight(table, 800),
+        101 => eight(table, 808),
+        102 => eight(table, 816),
+        103 => eight(table, 824),
+        104 => eight(table, 832),
+        105 => eight(table, 840),
+        106 => eight(table, 848),
+        107 => eight(table, 856),
+        108 => eight(table, 864),
+        109 => eight(table, 872),
+        110 => eight(table, 880),
+        111 => eight(table, 888),
+        112 => eight(table, 896),
+        113 => eight(table, 904),
+        114 => eight(table, 912),
+        115 => eight(table, 920),
+        116 => eight(table, 928),
+        117 => eight(table, 936),
+        118 => eight(table, 944),
+        119 => eight(table, 952),
+        120 => eight(table, 960),
+        121 => eight(table, 968),
+        122 => eight(table, 976),
+        123 => eight(table, 984),
+        124 => eight(table, 992),
+        125 => eight(table, 1000),
+        126 => eight(table, 1008),
+        127 => eight(table, 1016),
+        128 => eight(table, 1024),
+        129 => eight(table, 1032),
+        130 => eight(table, 1040),
+        131 => eight(table, 1048),
+        132 => eight(table, 1056),
+        133 => eight(table, 1064),
+        134 => eight(table, 1072),
+        135 => eight(table, 1080),
+        136 => eight(table, 1088),
+        137 => eight(table, 1096),
+        138 => eight(table, 1104),
+        139 => eight(table, 1112),
+        140 => eight(table, 1120),
+        141 => eight(table, 1128),
+        142 => eight(table, 1136),
+        143 => eight(table, 1144),
+        _ => 0,
+    }
+}
+
+// Eight entries of a table in one word, its digits to the base 256.
+fn eight(table: &[u8; 1152], at: usize) -> u64
+    requires { ⌜ at + 8 ≤ 1152 ⌝ }
+    ensures { λ r. ⌜ ((i : ℕ) → i < 8 → r / 2 ^ (8 * i) % 256 ≡ getD (now (table .entry)) (at + i) 0) ⌝ }
+{
+    wide(table[at])
+        + 256
+            * (wide(table[at + 1])
+                + 256
+                    * (wide(table[at + 2])
+                        + 256
+                            * (wide(table[at + 3])
+                                + 256
+                                    * (wide(table[at + 4])
+                                        + 256
+                                            * (wide(table[at + 5])
+                                                + 256
+                                                    * (wide(table[at + 6])
+                                                        + 256 * (wide(table[at + 7]))))))))
+}
+
+// A byte as a wide number.
+fn wide(x: u8) -> u64
+    ensures { λ r. ⌜ (r ≡ x) × (r < 256) ⌝ }
+{
+    x as u64
+}

@@ -1,11 +1,11 @@
+// The table of verdicts for works on signals, and how an entry is read from it.
 ghost use mathlib.Core.Path.{_≡_};
 ghost use Prim.Native.Nat.{ℕ, _+_, _*_, _/_, _%_, _<_, _≤_, _^_};
 ghost use lib.ListN.{getD};
 ghost use Rattle.signals.specs.Signals.{verdictRule};
 ghost use Rattle.signals.specs.Table.{verdictOf};
 
-// The verdicts for works on signals (document 01): one entry for each line, signal and flags, at
-// ((line - 1) x 6 + signal) x 64 + flags.
+// Document 01's table: one entry for each line, signal and flags, at ((line - 1) x 6 + signal) x 64 + flags.
 pub const VERDICTS: [u8; 1152] = [
     5, // line 1, signal 0
     1,

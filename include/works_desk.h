@@ -1,0 +1,260 @@
+/*
+ * The turnout works desk, for firmware in C (C99) or C++.
+ *
+ * Three archives, built by `rt staticlib NAME`:
+ *   libexports.a       levels Halt, Junction and Line: sheets, records, journals, replaying a journal, both questions after one
+ *   libunit.a          levels Halt, Junction and Line: a desk of 520 bytes, heard one record at a time, and both questions of it
+ *   libexports_line.a  level Line alone: verdicts for works on signals
+ * They may be linked together in any mix and order. They need memcpy and memset, allocate nothing and keep nothing between calls.
+ *
+ * For every call:
+ *   - No check is needed before it: every function takes any bytes, of any length, and any numbers, and is proved to return.
+ *   - A buffer goes as a pointer and its length in bytes. The pointer is not NULL, also where the length is 0.
+ *   - Of one call, a buffer that is written overlaps no other buffer of that call. Buffers that are only read may overlap.
+ *   - The number that comes back is 0 if the call was accepted, else the first check that failed (enum desk_number).
+ *   - A refusal leaves every buffer as it was.
+ *   - Several values come back packed in one number, the code in its lowest byte; the functions at each call take them apart.
+ *
+ * Numbers in buffers are big-endian. A set of turnouts is 64 bits; bit n is turnout n. Turnouts, routes, zones and records count from 0.
+ */
+#ifndef WORKS_DESK_H
+#define WORKS_DESK_H
+
+#include <stddef.h>
+#include <stdint.h>
+
+#ifdef __cplusplus
+extern "C" {
+#endif
+
+/* Sizes, in bytes. */
+enum {
+    DESK_SHEET_MOST = 2312,       /* a sheet has 8 + 3 x turnouts + 33 x routes; most with 64 of each */
+    DESK_RECORD_BYTES = 32,       /* a record */
+    DESK_JOURNAL_HEAD = 16,       /* a journal has 16 + 32 x count; what stands after that is not looked at */
+    DESK_JOURNAL_RECORDS = 1024,  /* the most records that a journal holds */
+    DESK_JOURNAL_MOST = 32784,    /* a full journal */
+    DESK_ANSWER_BYTES = 5,        /* an answer of a replay: code (1), minutes (4) */
+    UNIT_DESK_BYTES = 520         /* the desk of a unit */
+};
+
+/* The numbers that the calls return. */
+enum desk_number {
+    DESK_ACCEPTED = 0,
+    DESK_SHEET_LENGTH = 1,   /* sheet: length */
+    DESK_SHEET_MARK = 2,     /* sheet: mark */
+    DESK_SHEET_VERSION = 3,  /* sheet: version */
+    DESK_SHEET_COUNTS = 4,   /* sheet: counts */
+    DESK_SHEET_TURNOUT = 5,  /* sheet: bad turnout, with the record's index */
+    DESK_SHEET_ROUTE = 6,    /* sheet: bad route, with the record's index */
+    DESK_RECORD_LENGTH = 10, /* a record, or the buffer for one, is not 32 bytes */
+    DESK_KIND = 11,          /* kind not 1 to 12 */
+    DESK_ZONE = 12,          /* zone not below the station's count */
+    DESK_FIELD = 13,         /* a field breaks its rule; writing a message that no record carries; a question about no turnout */
+    DESK_TIME = 14,          /* time before the zone's last accepted */
+    DESK_NO_ID = 15,         /* no work or movement under this id */
+    DESK_OCCUPIED = 16,      /* work, a movement or a clearance is there already */
+    DESK_PLACE = 17,         /* turnouts or route that the message may not name */
+    DESK_STAGE = 18,         /* the work or the movement is at another stage */
+    DESK_CONFLICT = 19,      /* a standing movement names a turnout of the work; a cleared turnout would be opened */
+    DESK_CLEARANCE = 20,     /* a clearance that does not fit its turnout */
+    DESK_MEDIUM = 21,        /* voice without a working recorder, or written with one */
+    DESK_NOT_ALLOWED = 22,   /* not allowed under this form or this regime */
+    DESK_NO_JOURNAL = 30,    /* no journal: its length, mark, version, count or zeros */
+    DESK_JOURNAL_FULL = 31,  /* the journal is full: 1,024 records, or under 32 bytes left */
+    DESK_NO_RECORD = 32,     /* record n not below the journal's count */
+    DESK_SIGNAL_RANGE = 33,  /* works on signals: line, signal or flags out of range */
+    DESK_SMALL_BUFFER = 60,  /* replaying: the buffer has under 5 bytes for each record's answer */
+    DESK_NOT_A_DESK = 61     /* unit: not the bytes of a desk, or not 520 of them */
+};
+
+/* Under which signals a movement may be ordered. */
+enum desk_regime_number {
+    DESK_HELD = 0,   /* a turnout of the route under agreed work lacks a clearance; also with every refusal */
+    DESK_CLEAR = 1,  /* all of them are declared efficient: signals clear */
+    DESK_DANGER = 2  /* all have a clearance, not all efficient: signals at danger */
+};
+
+/* The lowest turnout where none lacks a clearance. */
+enum { DESK_NO_TURNOUT = 255 };
+
+/* Verdicts for works on signals. */
+enum desk_signal_verdict {
+    DESK_VERDICT_NONE = 0,           /* refused */
+    DESK_VERDICT_AT_DANGER = 1,      /* form M.45, the signal at danger */
+    DESK_VERDICT_DARK = 2,           /* form M.45, the signal dark */
+    DESK_VERDICT_DARK_BLOCK_OUT = 3, /* dark, the block out */
+    DESK_VERDICT_ANY_BLOCK_OUT = 4,  /* any aspect, the block out */
+    DESK_VERDICT_CLOSURE = 5,        /* closure only */
+    DESK_VERDICT_NO_SIGNAL = 6       /* no such signal */
+};
+
+/*
+ * A record, 32 bytes: kind (1), zone (1), time in seconds (4), id (4), set a (8), set b (8), details d0 to d5 (1 each).
+ * Id is the form of the work (kinds 1 to 4, 10, 11) or the train (5 to 9), not 0; for kind 12 it is 0. What a kind does not use is 0.
+ */
+enum desk_kind {
+    DESK_WORK_ASKED = 1,      /* a: turnouts; d0: 1 form M.45, 2 recorded verbal */
+    DESK_AGREED = 2,
+    DESK_WITHDRAWN = 3,
+    DESK_DETECTION_OFF = 4,   /* a: detection lost; b: portable device */
+    DESK_MOVEMENT_ASKED = 5,  /* d0: route, 0 to 63 */
+    DESK_CLEARED = 6,         /* d0: turnout, 0 to 63; d1: declaration, 1 to 9; d2: 0 normal, 1 reverse;
+                                 d3: 0 no clamp, 1 clamp, 2 attended; d4: 1 voice, 2 written */
+    DESK_ORDERED = 7,         /* d0: 1 signals clear, 2 at danger */
+    DESK_PASSED = 8,
+    DESK_CANCELLED = 9,
+    DESK_PART_RESTORED = 10,  /* a: turnouts */
+    DESK_ALL_RESTORED = 11,
+    DESK_RECORDER = 12        /* d0: 0 out, 1 working */
+};
+
+/* The code of any packed answer. */
+static inline uint8_t desk_code(uint64_t answer) { return (uint8_t)(answer & 255u); }
+
+/* ---- libexports.a ---- */
+
+/*
+ * Reads a sheet (8 + 3P + 33R bytes, at most 2,312). Codes: 0, 1 to 6, in the order length under 8, mark, version, counts, length,
+ * turnouts, routes. Back come the code and the index of the bad turnout or route (0 unless the code is 5 or 6).
+ */
+uint32_t desk_sheet(const uint8_t *sheet, size_t sheet_len);
+
+static inline uint8_t desk_sheet_index(uint32_t answer) { return (uint8_t)(answer >> 8); }
+
+/* Reads a record (32 bytes). Codes: 0, 10, 11, 13. What depends on the station or on earlier messages is for the desk to check. */
+uint8_t desk_record(const uint8_t *record, size_t record_len);
+
+/* Writes a message as a record into the buffer (32 bytes), if accepted. Codes: 0, 10, 13. */
+uint8_t desk_write_record(uint8_t kind, uint8_t zone, uint32_t time, uint32_t id, uint64_t a, uint64_t b, uint8_t d0, uint8_t d1,
+                          uint8_t d2, uint8_t d3, uint8_t d4, uint8_t d5, uint8_t *buffer, size_t buffer_len);
+
+/*
+ * Hears every record of a journal (16 + 32 x count bytes or more), from a fresh desk, and writes an answer for each into `answers`
+ * (5 x count bytes or more; those past them stay): its code (0, 11 to 22), its minutes. Minutes are those from the agreement to an
+ * accepted kind 11, else 0. Codes of the call: 0, the sheet's, 30, 60; if it is not 0 nothing is written.
+ */
+uint8_t desk_replay(const uint8_t *sheet, size_t sheet_len, const uint8_t *journal, size_t journal_len, uint8_t *answers,
+                    size_t answers_len);
+
+/* Answer n of a replay, n below the journal's count. */
+static inline uint8_t desk_answer_code(const uint8_t *answers, size_t n) { return answers[DESK_ANSWER_BYTES * n]; }
+
+static inline uint32_t desk_answer_minutes(const uint8_t *answers, size_t n)
+{
+    const uint8_t *at = answers + DESK_ANSWER_BYTES * n + 1;
+    return (uint32_t)at[0] << 24 | (uint32_t)at[1] << 16 | (uint32_t)at[2] << 8 | (uint32_t)at[3];
+}
+
+/*
+ * The movement question after a journal: may this train's movement in this zone be ordered, under which signals. Codes: 0, the
+ * sheet's, 30, 12, 15. Back come the code, the regime, the lowest turnout that lacks a clearance (255 for none), how many lack one;
+ * with a refusal: held, 255, 0.
+ */
+uint64_t desk_movement(const uint8_t *sheet, size_t sheet_len, const uint8_t *journal, size_t journal_len, uint8_t zone,
+                       uint32_t train);
+
+/* Of the answers of desk_movement and unit_movement. */
+static inline uint8_t desk_regime(uint64_t answer) { return (uint8_t)(answer >> 8 & 255u); }
+static inline uint8_t desk_lowest(uint64_t answer) { return (uint8_t)(answer >> 16 & 255u); }
+static inline uint8_t desk_count(uint64_t answer) { return (uint8_t)(answer >> 24 & 255u); }
+
+/* The work question after a journal: is this turnout open to work. Codes: 0, the sheet's, 30, 13. Back come the code and yes or no. */
+uint32_t desk_work(const uint8_t *sheet, size_t sheet_len, const uint8_t *journal, size_t journal_len, uint8_t turnout);
+
+/* Of the answers of desk_work and unit_work: 1 yes, 0 no and with every refusal. */
+static inline int desk_yes(uint32_t answer) { return (int)(answer >> 8 & 1u); }
+
+/*
+ * A journal: the letters WKJ, version (2 bytes, 1), count (4, at most 1,024), seven zeros, then its records. The 16 bytes of an empty
+ * one are 'W' 'K' 'J' 0 1 and eleven zeros.
+ */
+
+/* Checks a journal's head and that its records are there; the records themselves are not read. Codes: 0, 30. */
+uint8_t desk_journal_check(const uint8_t *journal, size_t journal_len);
+
+/* How many records a journal holds, 0 to 1,024; 0 for what is no journal. */
+uint32_t desk_journal_count(const uint8_t *journal, size_t journal_len);
+
+/* Record n of a journal. Codes: 0, 30, 32. Back come the code and the place in the journal where the record starts. */
+uint64_t desk_journal_record(const uint8_t *journal, size_t journal_len, uint32_t n);
+
+/* 16 + 32 x n; 0 with a refusal. */
+static inline size_t desk_record_place(uint64_t answer) { return (size_t)(answer >> 8); }
+
+/*
+ * Adds a record (32 bytes) to a journal, whose buffer goes whole, with the room for further records. If accepted, the 32 bytes after
+ * the last record and the count are written, no other byte. Codes: 0, 10, 11, 13, 30, 31.
+ */
+uint8_t desk_journal_add(uint8_t *journal, size_t journal_len, const uint8_t *record, size_t record_len);
+
+/* ---- libunit.a ---- */
+
+/*
+ * A unit keeps its desk in 520 bytes and may store them anywhere, as they are, from one message to the next. They are of use with the
+ * station's sheet alone, which goes with each call: with a changed sheet, begin with a fresh desk.
+ *
+ * place  size
+ *     0     1  version, 1
+ *     1     7  0
+ *     8    64  zone 0; zones 1 to 7 follow at 72, 136, 200, 264, 328, 392, 456. Zones that the station has not stay as they began.
+ *
+ * A zone, place from its start:
+ *     0     1  work: 0 none, 1 asked, 2 agreed
+ *     1     1  manner: 1 form M.45, 2 recorded verbal
+ *     2     4  form (the id)
+ *     6     8  set of the turnouts of the work
+ *    14     4  time at which it was agreed
+ *    18     8  set of the turnouts open to work
+ *    26     1  movement: 0 none, 1 one stands
+ *    27     1  route
+ *    28     1  order: 0 not ordered, 1 signals clear, 2 at danger
+ *    29     4  train (the id)
+ *    33     8  set of the turnouts cleared for the train
+ *    41     8  set of those of them that were declared efficient
+ *    49     1  recorder: 0 out, 1 working
+ *    50     4  time of the last accepted message, in seconds
+ *    54    10  0
+ *
+ * What a zone has not is 0: with no work all of 1 to 25, with work asked 14 to 25, with no movement 27 to 48. Bytes that break this, a
+ * version or a reserved byte, or that have another stage, movement or recorder, are no desk: 61. Other damage does not show, so a
+ * unit that stores its desk should guard it with a sum of its own. A fresh desk is 1, and 1 at place 49 of each zone, else 0.
+ */
+
+/* Writes the fresh desk (520 bytes): no work, no movement, recorders working, times 0. Codes: 0, 61. */
+uint8_t unit_fresh(uint8_t *desk, size_t desk_len);
+
+/*
+ * Hears a record (32 bytes). If accepted, the desk (520 bytes) is written as it then stands, and the minutes: those from the agreement
+ * to an accepted kind 11, else 0. If refused, desk and minutes stay as they were. Codes: 0, the sheet's, 61, 10 to 22.
+ * Records heard one by one from a fresh desk get the codes and minutes that desk_replay gives for their journal.
+ */
+uint8_t unit_apply(const uint8_t *sheet, size_t sheet_len, uint8_t *desk, size_t desk_len, const uint8_t *record,
+                   size_t record_len, uint32_t *minutes);
+
+/* The movement question of a desk, packed as by desk_movement. Codes: 0, the sheet's, 61, 12, 15. */
+uint64_t unit_movement(const uint8_t *sheet, size_t sheet_len, const uint8_t *desk, size_t desk_len, uint8_t zone,
+                       uint32_t train);
+
+/* The work question of a desk, packed as by desk_work. Codes: 0, the sheet's, 61, 13. */
+uint32_t unit_work(const uint8_t *sheet, size_t sheet_len, const uint8_t *desk, size_t desk_len, uint8_t turnout);
+
+/* ---- libexports_line.a ---- */
+
+/*
+ * The verdict for works on a signal. Codes: 0, 33. Back come the code and the verdict (0 if refused).
+ * Line: 1 axle-counter, manual or telephone block, 2 coded-current automatic block, 3 without train protection.
+ * Signal: 0 distant, 1 outer or only home, 2 inner home, 3 starting, 4 block post (on line 2 one that guards a crossing or singular
+ * place or serves as distant), 5 other automatic block post.
+ * Flags, added up: 1 can be held at danger, 2 day, 4 SSC fitted, 8 its danger message ensured, 16 auxiliary lights touched, 32 those
+ * cannot light wrongly.
+ */
+uint32_t desk_verdict(uint8_t line, uint8_t signal, uint8_t flags);
+
+static inline uint8_t desk_verdict_value(uint32_t answer) { return (uint8_t)(answer >> 8); }
+
+#ifdef __cplusplus
+}
+#endif
+
+#endif

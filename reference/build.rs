@@ -2,6 +2,8 @@
 
 use std::env;
 
+const ARCHIVES: [&str; 3] = ["exports", "exports_line", "unit"];
+
 fn main() {
     println!("cargo:rerun-if-env-changed=DESK_LIB");
     if env::var_os("CARGO_FEATURE_LIBRARY").is_none() {
@@ -9,9 +11,11 @@ fn main() {
     }
     if let Ok(folder) = env::var("DESK_LIB") {
         println!("cargo:rustc-link-search=native={folder}");
-        println!("cargo:rerun-if-changed={folder}/libexports.a");
-        println!("cargo:rerun-if-changed={folder}/libexports_line.a");
+        for archive in ARCHIVES {
+            println!("cargo:rerun-if-changed={folder}/lib{archive}.a");
+        }
     }
-    println!("cargo:rustc-link-lib=static=exports");
-    println!("cargo:rustc-link-lib=static=exports_line");
+    for archive in ARCHIVES {
+        println!("cargo:rustc-link-lib=static={archive}");
+    }
 }

@@ -15,4 +15,5 @@ pub mod set;
 pub mod sheet;
 pub mod signals;
 pub mod station;
+pub mod unit;
 pub mod zone;

@@ -50,6 +50,25 @@ mod c {
         pub fn desk_journal_record(journal: *const u8, len: usize, n: u32) -> u64;
         pub fn desk_journal_add(journal: *mut u8, len: usize, record: *const u8, record_len: usize) -> u8;
         pub fn desk_verdict(line: u8, signal: u8, flags: u8) -> u32;
+        pub fn unit_fresh(desk: *mut u8, len: usize) -> u8;
+        pub fn unit_apply(
+            sheet: *const u8,
+            sheet_len: usize,
+            desk: *mut u8,
+            desk_len: usize,
+            record: *const u8,
+            record_len: usize,
+            minutes: *mut u32,
+        ) -> u8;
+        pub fn unit_movement(
+            sheet: *const u8,
+            sheet_len: usize,
+            desk: *const u8,
+            desk_len: usize,
+            zone: u8,
+            train: u32,
+        ) -> u64;
+        pub fn unit_work(sheet: *const u8, sheet_len: usize, desk: *const u8, desk_len: usize, turnout: u8) -> u32;
     }
 }
 
@@ -115,4 +134,32 @@ pub fn journal_add(journal: &mut [u8], record: &[u8]) -> u8 {
 /// Code + 256 x verdict.
 pub fn verdict(line: u8, signal: u8, flags: u8) -> u32 {
     unsafe { c::desk_verdict(line, signal, flags) }
+}
+
+pub fn unit_fresh(desk: &mut [u8]) -> u8 {
+    unsafe { c::unit_fresh(desk.as_mut_ptr(), desk.len()) }
+}
+
+pub fn unit_apply(sheet: &[u8], desk: &mut [u8], record: &[u8], minutes: &mut u32) -> u8 {
+    unsafe {
+        c::unit_apply(
+            sheet.as_ptr(),
+            sheet.len(),
+            desk.as_mut_ptr(),
+            desk.len(),
+            record.as_ptr(),
+            record.len(),
+            minutes,
+        )
+    }
+}
+
+/// Packed as by `movement`.
+pub fn unit_movement(sheet: &[u8], desk: &[u8], zone: u8, train: u32) -> u64 {
+    unsafe { c::unit_movement(sheet.as_ptr(), sheet.len(), desk.as_ptr(), desk.len(), zone, train) }
+}
+
+/// Packed as by `work`.
+pub fn unit_work(sheet: &[u8], desk: &[u8], turnout: u8) -> u32 {
+    unsafe { c::unit_work(sheet.as_ptr(), sheet.len(), desk.as_ptr(), desk.len(), turnout) }
 }

@@ -24,12 +24,33 @@ pub struct Message {
 pub enum Form {
     M45,
     RecordedVerbal,
+    /// Of a stored desk alone: no message has it.
+    Other(u8),
+}
+
+impl Form {
+    /// 01, kind 1: "d0 1 form M.45, 2 recorded verbal".
+    pub fn of(number: u8) -> Form {
+        match number {
+            1 => Form::M45,
+            2 => Form::RecordedVerbal,
+            other => Form::Other(other),
+        }
+    }
+
+    pub fn number(self) -> u8 {
+        match self {
+            Form::M45 => 1,
+            Form::RecordedVerbal => 2,
+            Form::Other(other) => other,
+        }
+    }
 }
 
 #[derive(Clone, Copy, Debug, PartialEq, Eq)]
 pub enum Aspect {
-    Clear,
-    Danger,
+    Clear = 1,
+    Danger = 2,
 }
 
 /// What a message of each of the twelve kinds says, beside its zone, time and id.

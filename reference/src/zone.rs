@@ -55,11 +55,20 @@ impl Work {
 #[derive(Clone, Copy, Debug, PartialEq, Eq)]
 pub struct Train<'s> {
     pub id: u32,
+    /// The route's number in the station, and the route.
+    pub number: u8,
     pub route: &'s Route,
-    pub ordered: bool,
+    /// 0, or the aspect it was ordered with.
+    pub order: u8,
     pub cleared: Set,
     /// Of those cleared, the ones declared all efficient.
     pub efficient: Set,
+}
+
+impl Train<'_> {
+    pub fn ordered(&self) -> bool {
+        self.order != 0
+    }
 }
 
 #[derive(Clone, Copy, Debug, PartialEq, Eq)]
@@ -208,9 +217,10 @@ impl<'s> Zone<'s> {
     /// Kind 5: "16 movement in zone; 17 route not below R or of another zone"; "movement asked".
     fn movement_asked(&mut self, station: &'s Station, zone: u8, id: u32, route: u8) -> Result<(), Refusal> {
         refuse(self.movement != Movement::None, Refusal::Occupied)?;
-        let below = station.routes.get(usize::from(route));
+        let number = route;
+        let below = station.routes.get(usize::from(number));
         let route = below.filter(|route| route.zone == zone).ok_or(Refusal::Place)?;
-        self.movement = Movement::Standing(Train { id, route, ordered: false, cleared: 0, efficient: 0 });
+        self.movement = Movement::Standing(Train { id, number, route, order: 0, cleared: 0, efficient: 0 });
         Ok(())
     }
 
@@ -236,21 +246,21 @@ impl<'s> Zone<'s> {
     /// Kind 7: "15; 18 ordered already; 22"; "Order 22: clear needs clear; danger needs not held."
     fn ordered(&mut self, id: u32, aspect: Aspect) -> Result<(), Refusal> {
         let train = self.movement.under(id)?;
-        refuse(train.ordered, Refusal::Stage)?;
+        refuse(train.ordered(), Refusal::Stage)?;
         let regime = self.standing(id)?.regime;
         let fits = match aspect {
             Aspect::Clear => regime == Regime::Clear,
             Aspect::Danger => regime != Regime::Held,
         };
         refuse(!fits, Refusal::Regime)?;
-        self.movement = Movement::Standing(Train { ordered: true, ..train });
+        self.movement = Movement::Standing(Train { order: aspect as u8, ..train });
         Ok(())
     }
 
     /// Kind 8: "15; 18 not ordered"; "no movement or clearance".
     fn passed(&mut self, id: u32) -> Result<(), Refusal> {
         let train = self.movement.under(id)?;
-        refuse(!train.ordered, Refusal::Stage)?;
+        refuse(!train.ordered(), Refusal::Stage)?;
         self.movement = Movement::None;
         Ok(())
     }
@@ -258,7 +268,7 @@ impl<'s> Zone<'s> {
     /// Kind 9: "15; 18 ordered"; "no movement or clearance".
     fn cancelled(&mut self, id: u32) -> Result<(), Refusal> {
         let train = self.movement.under(id)?;
-        refuse(train.ordered, Refusal::Stage)?;
+        refuse(train.ordered(), Refusal::Stage)?;
         self.movement = Movement::None;
         Ok(())
     }

@@ -104,7 +104,9 @@ impl Comparison {
 
         let answers: Vec<Answer> = heard.iter().map(|(_, answer)| *answer).collect();
         self.replay(files, &answers)?;
-        self.questions(files, &desk, &records)?;
+        let unit = self.unit(files, &heard, &desk)?;
+        self.questions(files, &desk, &unit, &records)?;
+        self.damaged_desks(files, &talk, &desk, &unit)?;
         let accepted = demand::check(&heard, &desk).map_err(|fault| Difference {
             call: format!("demand 3, {fault}"),
             library: "(not called)".into(),
@@ -157,6 +159,7 @@ impl Comparison {
                 library::work(bytes, &bad_journal, 0),
                 u32::from(code),
             )?;
+            self.refused_unit(files, code)?;
         }
         Ok(())
     }
@@ -188,14 +191,22 @@ impl Comparison {
         Ok(())
     }
 
-    /// Both questions after the list, for every turnout, zone and train.
-    fn questions(&mut self, files: Files, desk: &Desk, records: &[[u8; RECORD]]) -> Result<(), Difference> {
+    /// Both questions after the list, for every turnout, zone and train: of its journal, and of the unit that heard it.
+    fn questions(
+        &mut self,
+        files: Files,
+        desk: &Desk,
+        unit: &[u8],
+        records: &[[u8; RECORD]],
+    ) -> Result<(), Difference> {
         for turnout in (0..=64).chain([255]) {
             let [code, yes] = replay::work_numbers(&desk.work_question(turnout));
             self.tally.work(code);
             let call = || format!("desk_work(sheet, journal, {turnout})");
-            let library = library::work(files.sheet, files.journal, turnout);
-            files.same(call, library, u32::from(code) + 256 * u32::from(yes))?;
+            let packed = u32::from(code) + 256 * u32::from(yes);
+            files.same(call, library::work(files.sheet, files.journal, turnout), packed)?;
+            let call = || format!("unit_work(sheet, desk after the journal, {turnout})");
+            files.same(call, library::unit_work(files.sheet, unit, turnout), packed)?;
         }
         let read = records.iter().filter_map(|record| message::read(record).ok());
         let mut trains: BTreeSet<u32> =
@@ -208,6 +219,9 @@ impl Comparison {
                 let packed = u64::from(u32::from_le_bytes(answer));
                 let library = library::movement(files.sheet, files.journal, zone, train);
                 let call = || format!("desk_movement(sheet, journal, {zone}, {train}) as code, regime, lowest, count");
+                files.same(call, library.to_le_bytes(), packed.to_le_bytes())?;
+                let library = library::unit_movement(files.sheet, unit, zone, train);
+                let call = || format!("unit_movement(sheet, desk after the journal, {zone}, {train})");
                 files.same(call, library.to_le_bytes(), packed.to_le_bytes())?;
             }
         }

@@ -116,7 +116,8 @@ impl Place<'_, '_> {
         let named = self.train().map_or(0, |train| train.route.named());
         let free = works.turnouts & !self.whole_crossovers(named);
         let part = self.whole_crossovers(self.some(rng, if free == 0 { works.turnouts } else { free }));
-        if part != works.turnouts {
+        // Only a damaged desk has work on no turnout.
+        if part != works.turnouts || part == 0 {
             return part;
         }
         part & !self.whole_crossovers(only(rng.member(part)))
@@ -133,11 +134,11 @@ impl Place<'_, '_> {
             return builders::movement_asked(rng.pick(&self.talk.trains), route);
         };
         let lacking = train.route.named() & self.state.work.agreed_turnouts() & !train.cleared;
-        let ended = if train.ordered { builders::passed(train.id) } else { builders::cancelled(train.id) };
+        let ended = if train.ordered() { builders::passed(train.id) } else { builders::cancelled(train.id) };
         match rng.within(0..=9) {
             0 => ended,
             _ if lacking != 0 => self.clearance(rng, train, lacking),
-            _ if train.ordered => ended,
+            _ if train.ordered() => ended,
             _ => builders::ordered(train.id, if train.efficient == train.cleared { rng.pick(&[1, 1, 2]) } else { 2 }),
         }
     }
@@ -241,8 +242,8 @@ impl Place<'_, '_> {
 /// Part restoration is for recorded verbal agreements.
 fn part_weight(form: Form) -> u32 {
     match form {
-        Form::M45 => 1,
         Form::RecordedVerbal => 4,
+        _ => 1,
     }
 }
 

@@ -8,6 +8,7 @@ mod lists;
 mod rng;
 mod stations;
 mod tally;
+mod units;
 
 use compare::Comparison;
 use std::path::Path;

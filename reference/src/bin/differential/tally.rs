@@ -1,6 +1,7 @@
 //! Counts of what occurred, so that a run that never met a code, kind, regime or verdict is no test.
 
-const CODES: [u8; 25] = [0, 1, 2, 3, 4, 5, 6, 10, 11, 12, 13, 14, 15, 16, 17, 18, 19, 20, 21, 22, 30, 31, 32, 33, 60];
+const CODES: [u8; 26] =
+    [0, 1, 2, 3, 4, 5, 6, 10, 11, 12, 13, 14, 15, 16, 17, 18, 19, 20, 21, 22, 30, 31, 32, 33, 60, 61];
 const HEARD: [u8; 13] = [0, 11, 12, 13, 14, 15, 16, 17, 18, 19, 20, 21, 22];
 const REGIMES: [&str; 3] = ["held", "clear", "danger"];
 
@@ -10,6 +11,8 @@ pub struct Tally {
     pub heard: u64,
     pub lists: u64,
     pub questions: u64,
+    /// Records heard by a unit.
+    pub units: u64,
     codes: [u64; 256],
     /// By kind (0 for none of the twelve) and code, of messages heard.
     answers: [[u64; 256]; 13],
@@ -24,6 +27,7 @@ impl Tally {
             heard: 0,
             lists: 0,
             questions: 0,
+            units: 0,
             codes: [0; 256],
             answers: [[0; 256]; 13],
             regimes: [0; 3],
@@ -41,6 +45,12 @@ impl Tally {
         self.code(code);
         let kind = if kind <= 12 { usize::from(kind) } else { 0 };
         self.answers[kind][usize::from(code)] += 1;
+    }
+
+    /// A record heard by a unit, beside the inputs.
+    pub fn unit(&mut self, code: u8) {
+        self.units += 1;
+        self.code(code);
     }
 
     pub fn movement(&mut self, [code, regime, ..]: [u8; 4]) {
@@ -65,8 +75,8 @@ impl Tally {
     /// Prints the counts; returns what never occurred.
     pub fn report(&self) -> Vec<String> {
         println!(
-            "inputs {}: heard {}, lists {}, questions beside them {}",
-            self.inputs, self.heard, self.lists, self.questions
+            "inputs {}: heard {}, lists {}, questions beside them {}, records heard by a unit {}",
+            self.inputs, self.heard, self.lists, self.questions, self.units
         );
         let mut counts: Vec<(String, u64)> = Vec::new();
         counts.extend(CODES.iter().map(|&code| (format!("code {code}"), self.codes[usize::from(code)])));

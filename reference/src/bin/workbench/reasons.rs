@@ -125,7 +125,7 @@ fn split(bad: &mut Vec<String>, station: &Station, set: Set) {
 /// 18: how far the work is, or the movement.
 fn stage(zone: &Zone, content: &Content) -> String {
     match (of_movement(content), state::standing(zone), zone.work) {
-        (true, Some(train), _) if train.ordered => format!("train {} is ordered", train.id),
+        (true, Some(train), _) if train.ordered() => format!("train {} is ordered", train.id),
         (true, Some(train), _) => format!("train {} is not ordered", train.id),
         (false, _, Work::Asked(works)) => format!("the work of form {} is only asked", works.id),
         (false, _, Work::Agreed { works, since, .. }) => format!("form {} was agreed at {since}", works.id),

@@ -42,7 +42,7 @@ fn movement(station: &Station, zone: &Zone) -> String {
         "train {} on {}, {}. Cleared: {}. Regime: {}",
         train.id,
         route(station, &train),
-        if train.ordered { "ordered" } else { "not ordered" },
+        if train.ordered() { "ordered" } else { "not ordered" },
         words::set_or_none(train.cleared),
         regime(zone).unwrap_or_default()
     )

@@ -58,6 +58,7 @@ pub fn form(form: Form) -> &'static str {
     match form {
         Form::M45 => "M.45",
         Form::RecordedVerbal => "recorded verbal",
+        Form::Other(_) => "no known form",
     }
 }
 

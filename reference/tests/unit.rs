@@ -1,0 +1,115 @@
+//! The unit: station K record by record over 520 bytes, and bytes that are no desk.
+
+use reference::builders::{agreed, journal_k, station_k};
+use reference::desk::Desk;
+use reference::sheet;
+use reference::station::Station;
+use reference::unit::{self, DESK};
+
+fn station() -> Station {
+    sheet::read(&station_k().bytes()).expect("station K reads")
+}
+
+fn fresh() -> [u8; DESK] {
+    let mut bytes = [0xA5; DESK];
+    assert_eq!(unit::fresh(&mut bytes), 0);
+    bytes
+}
+
+/// Station K's desk after its first records.
+fn after(records: usize) -> [u8; DESK] {
+    let (sheet, mut bytes) = (station_k().bytes(), fresh());
+    for message in journal_k().iter().take(records) {
+        unit::apply(&sheet, &mut bytes, &message.to_bytes(), &mut 0);
+    }
+    bytes
+}
+
+#[test]
+fn fresh_desk() {
+    let mut expected = [0; DESK];
+    expected[0] = 1;
+    (0..8).for_each(|zone| expected[8 + 64 * zone + 49] = 1);
+    assert_eq!(fresh(), expected);
+    assert_eq!(unit::decode(&station(), &expected), Some(Desk::fresh(&station())));
+    assert_eq!(unit::fresh(&mut [7; DESK + 1]), 61);
+}
+
+#[test]
+fn station_k_record_by_record() {
+    let (sheet, mut bytes) = (station_k().bytes(), fresh());
+    let mut answers = Vec::new();
+    for message in journal_k() {
+        let (before, mut minutes) = (bytes, 77);
+        let code = unit::apply(&sheet, &mut bytes, &message.to_bytes(), &mut minutes);
+        assert!(code == 0 || (bytes, minutes) == (before, 77));
+        answers.push((code, minutes));
+    }
+    let refused = |code| (code, 77);
+    let expected =
+        [(0, 0), (0, 0), (0, 0), (0, 0), refused(22), (0, 0), refused(22), (0, 0), refused(19), (0, 0), (0, 1)];
+    assert_eq!(answers, expected);
+}
+
+/// Each field at its place, once detection is off, the movement asked, turnout 0 cleared and the train ordered.
+#[test]
+fn layout() {
+    let mut zone = [0; 64];
+    zone[0..2].copy_from_slice(&[2, 1]);
+    zone[5] = 7;
+    zone[13] = 3;
+    zone[17] = 90;
+    zone[25] = 2;
+    zone[26..29].copy_from_slice(&[1, 0, 2]);
+    zone[31] = 2;
+    zone[40] = 1;
+    zone[49] = 1;
+    zone[53] = 117;
+    assert_eq!(after(8)[8..72], zone);
+    let station = station();
+    let desk = unit::decode(&station, &after(8)).expect("a desk's bytes");
+    assert_eq!(unit::encode(&desk), after(8));
+}
+
+#[test]
+fn no_desk() {
+    let changed = |place: usize, value: u8| {
+        let mut bytes = after(8);
+        bytes[place] = value;
+        bytes.to_vec()
+    };
+    let longer = [&after(8)[..], &[0]].concat();
+    let no_desks = [
+        after(8)[..DESK - 1].to_vec(),
+        longer,
+        changed(0, 2),
+        changed(7, 1),
+        changed(8, 3),
+        changed(8, 0),
+        changed(8, 1),
+        changed(8 + 26, 0),
+        changed(8 + 26, 2),
+        changed(8 + 49, 2),
+        changed(8 + 54, 1),
+        changed(72 + 1, 1),
+        changed(72 + 48, 1),
+    ];
+    for mut bytes in no_desks {
+        let (before, mut minutes) = (bytes.clone(), 77);
+        let record = agreed(7).to_bytes();
+        assert_eq!(unit::apply(&station_k().bytes(), &mut bytes, &record, &mut minutes), 61);
+        assert_eq!((&bytes, minutes), (&before, 77));
+        assert_eq!(unit::movement_at(&station(), &bytes, 0, 512), [61, 0, 255, 0]);
+        assert_eq!(unit::work_at(&station(), &bytes, 0), [61, 0]);
+    }
+}
+
+/// The sheet's number comes first, then 61, then the record's.
+#[test]
+fn order_of_refusals() {
+    let (good, short) = (station_k().bytes(), &station_k().bytes()[..49]);
+    let apply = |sheet: &[u8], desk: &mut [u8]| unit::apply(sheet, desk, &[], &mut 0);
+    assert_eq!(apply(short, &mut []), 1);
+    assert_eq!(apply(&good, &mut []), 61);
+    assert_eq!(apply(&good, &mut fresh()), 10);
+}

@@ -1,7 +1,8 @@
 //! What is timed: station K with rising times, and the largest station with a long conversation in all its zones.
 
 use reference::builders::{self, Sheet};
-use reference::message::Message;
+use reference::message::{Message, RECORD};
+use reference::{journal, replay, sheet};
 
 /// Records in each journal.
 pub const RECORDS: usize = 1024;
@@ -56,4 +57,13 @@ pub fn long_talk() -> Vec<u8> {
     }
     all.truncate(RECORDS);
     builders::journal(&all)
+}
+
+/// The records of a journal that are accepted.
+pub fn accepted(sheet: &[u8], journal: &[u8]) -> Vec<[u8; RECORD]> {
+    let station = sheet::read(sheet).expect("a good sheet");
+    let (answers, _) = replay::hear_all(&station, journal).expect("a good journal");
+    let records = journal::records(journal).expect("a good journal");
+    let accepted = records.zip(answers).filter(|(_, answer)| answer.is_ok());
+    accepted.map(|(record, _)| record.try_into().expect("a record")).collect()
 }

@@ -1,8 +1,11 @@
 //! Speed of the proved library beside this implementation: the same inputs, in one run, in turn, the least time of many
-//! rounds. It prints nanoseconds for each and their ratio.
+//! rounds. It prints nanoseconds for each and their ratio, and the stack that the library's calls take.
 
 mod inputs;
+mod stack;
 
+use reference::message::RECORD;
+use reference::unit::{self, DESK};
 use reference::{library, replay, sheet};
 use std::hint::black_box;
 use std::time::Instant;
@@ -51,6 +54,64 @@ fn replayed<'a>(name: &'a str, sheet: &'a [u8], journal: &'a [u8], records: usiz
     }
 }
 
+/// All records heard one by one, each over the bytes that the one before left, from a fresh desk on.
+fn one_by_one(records: &[[u8; RECORD]], mut apply: impl FnMut(&mut [u8], &[u8], &mut u32) -> u8) -> [u8; DESK] {
+    let (mut desk, mut minutes) = ([0; DESK], 0);
+    unit::fresh(&mut desk);
+    for record in records {
+        assert_eq!(apply(&mut desk, record, &mut minutes), 0);
+    }
+    desk
+}
+
+/// A unit's messages, of which all are accepted; the reference reads the sheet for each message as the library does, or
+/// has read it before.
+fn units<'a>(name: &'a str, sheet: &'a [u8], records: &'a [[u8; RECORD]], sheet_each_time: bool) -> Pair<'a> {
+    let station = sheet::read(sheet).expect("a good sheet");
+    let by_library = move || {
+        one_by_one(records, |desk, record, minutes| library::unit_apply(black_box(sheet), desk, record, minutes))
+    };
+    let by_reference = move || {
+        one_by_one(records, |desk, record, minutes| match sheet_each_time {
+            true => unit::apply(black_box(sheet), desk, record, minutes),
+            false => unit::apply_at(black_box(&station), desk, record, minutes),
+        })
+    };
+    assert_eq!(by_library(), by_reference());
+    Pair {
+        name,
+        units: records.len(),
+        library: Box::new(move || {
+            black_box(by_library());
+        }),
+        reference: Box::new(move || {
+            black_box(by_reference());
+        }),
+    }
+}
+
+fn show_stack(of: &str, call: &mut dyn FnMut()) {
+    match stack::depth(call) {
+        Some(bytes) => println!("stack of {of}: {bytes} bytes"),
+        None => println!("stack of {of}: not measured on this machine"),
+    }
+}
+
+/// The deepest of a replay on the largest station, and of any of its messages heard by a unit.
+fn stacks(sheet: &[u8], journal: &[u8], records: &[[u8; RECORD]]) {
+    let mut answers = vec![0; inputs::RECORDS * replay::ANSWER];
+    show_stack("a replay", &mut || {
+        black_box(library::replay(sheet, journal, &mut answers));
+    });
+    let (mut desk, mut minutes) = ([0; DESK], 0);
+    unit::fresh(&mut desk);
+    show_stack("unit_apply", &mut || {
+        for record in records {
+            black_box(library::unit_apply(sheet, &mut desk, record, &mut minutes));
+        }
+    });
+}
+
 fn verdicts<'a>() -> Pair<'a> {
     let all =
         || (1..=3).flat_map(|line| (0..=5).flat_map(move |signal| (0..=63).map(move |flags| (line, signal, flags))));
@@ -73,6 +134,7 @@ fn verdicts<'a>() -> Pair<'a> {
 fn main() {
     let (k, talk_k) = (inputs::station_k(), inputs::talk_k());
     let (large, talk) = (inputs::largest_station(), inputs::long_talk());
+    let (records_k, records) = (inputs::accepted(&k, &talk_k), inputs::accepted(&large, &talk));
     let pairs = [
         replayed("replay, station K, a message", &k, &talk_k, inputs::RECORDS),
         replayed("replay, largest station, a message", &large, &talk, inputs::RECORDS),
@@ -87,17 +149,22 @@ fn main() {
             }),
         },
         verdicts(),
+        units("unit_apply, station K, a message", &k, &records_k, true),
+        units("  reference without reading its sheet", &k, &records_k, false),
+        units("unit_apply, largest station, a message", &large, &records, true),
+        units("  reference without reading its sheet", &large, &records, false),
     ];
-    println!("{:<36} {:>12} {:>12} {:>8}", "", "library ns", "reference ns", "ratio");
+    println!("{:<42} {:>12} {:>12} {:>8}", "", "library ns", "reference ns", "ratio");
     for mut pair in pairs {
         let (library, reference) = least(&mut pair);
         let each = |time: u128| time as f64 / pair.units as f64;
         println!(
-            "{:<36} {:>12.1} {:>12.1} {:>8.2}",
+            "{:<42} {:>12.1} {:>12.1} {:>8.2}",
             pair.name,
             each(library),
             each(reference),
             library as f64 / reference as f64
         );
     }
+    stacks(&large, &talk, &records);
 }

@@ -227,7 +227,8 @@ uint8_t unit_fresh(uint8_t *desk, size_t desk_len);
 /*
  * Hears a record (32 bytes). If accepted, the desk (520 bytes) is written as it then stands, and the minutes: those from the agreement
  * to an accepted kind 11, else 0. If refused, desk and minutes stay as they were. Codes: 0, the sheet's, 61, 10 to 22.
- * Records heard one by one from a fresh desk get the codes and minutes that desk_replay gives for their journal.
+ * Records heard one by one from a fresh desk, the minutes set to 0 before each, get the codes and minutes that desk_replay gives for their
+ * journal.
  */
 uint8_t unit_apply(const uint8_t *sheet, size_t sheet_len, uint8_t *desk, size_t desk_len, const uint8_t *record,
                    size_t record_len, uint32_t *minutes);

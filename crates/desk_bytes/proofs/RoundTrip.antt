@@ -1,5 +1,5 @@
--- A desk, encoded and decoded, is the same desk, for every desk whose numbers are of their machine types; and bytes that are a desk's
--- are the encoding of the desk that stands in them.
+-- A desk, encoded and decoded, is the same desk, for every desk that code can hold: eight zones, numbers of their machine types. Bytes
+-- that are a desk's are the encoding of the desk that stands in them.
 -- Assumes nothing.
 use mathlib.Core.Path.{_≡_, refl, ap, _∙_}
 use mathlib.Core.Bool.{Bool, true, false, cond}

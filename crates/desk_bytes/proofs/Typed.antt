@@ -1,4 +1,5 @@
--- Desks whose numbers are of their machine types: the bounds, and that the desk that stands in bytes keeps them.
+-- Desks whose numbers of several bytes are of their machine types, as those of every desk are that code holds; and that the desk that
+-- stands in bytes is one of them.
 -- Assumes nothing.
 use mathlib.Core.Path.{_≡_, refl}
 use mathlib.Core.Bool.{Bool, true, false}

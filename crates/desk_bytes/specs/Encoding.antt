@@ -1,9 +1,11 @@
--- A desk as 520 bytes, and the desk that stands in bytes. Numbers are big-endian, as document 01 has them; what a zone has not is 0.
+-- A desk as 520 bytes, and the desk that stands in bytes. Numbers are big-endian, as document 01 has them; fields of work or of a movement
+-- that the zone does not have are 0.
 use mathlib.Core.Bool.{Bool, true, false, cond, _&&_}
 use mathlib.Core.List.{List, [], _∷_, _++_}
 use Prim.Native.Nat.{ℕ, zero, suc, _+_}
 use lib.Dec.{eqb}
 use lib.ListN.{replicate}
+use lib.Seq.{sets}
 use Rattle.bigendian.specs.BigEndian.{byteAt, numberAt, beBytes}
 use Rattle.zone.specs.declared.Work.{Work}
 use Rattle.zone.specs.declared.Work.the-variants.{NoWork, Asked, Agreed}
@@ -70,6 +72,10 @@ headBytes = 1 ∷ replicate 7 0
 unfoldable pub deskBytes : Desk → List ℕ
 deskBytes d = headBytes ++ zonesFrom d 0 8
 
+-- bytes with a desk stored at their start; a byte past their end is not stored
+abbrev pub storedDesk : List ℕ → Desk → List ℕ
+storedDesk s d = sets s 0 (deskBytes d)
+
 -- the work that stands in the bytes from a place on; a stage that is not 1 or 2 as no work
 unfoldable pub workIn : List ℕ → ℕ → Work
 workIn s at =
@@ -85,7 +91,7 @@ workIn s at =
     }))
     NoWork)
 
--- the movement that stands in the bytes from a place on
+-- the movement that stands in the bytes from a place on; a first byte that is not 1 as no movement
 unfoldable pub movementIn : List ℕ → ℕ → Movement
 movementIn s at =
     cond (eqb (byteAt s at) 1)
@@ -98,7 +104,7 @@ movementIn s at =
     }))
     NoMovement
 
--- the zone that stands in the bytes from a place on
+-- the zone that stands in the bytes from a place on; a recorder's byte that is not 1 as not working
 unfoldable pub zoneIn : List ℕ → ℕ → Zone
 zoneIn s at = record {
   work = workIn s at;

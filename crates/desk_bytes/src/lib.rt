@@ -1,8 +1,7 @@
 // A desk in 520 bytes: its encoding, and the desk that stands in bytes. The layout is in specs/Encoding.antt; proofs/RoundTrip.antt has
-// that a desk, encoded and decoded, is the same desk. Both functions take any bytes and any desk.
+// that a desk, encoded and decoded, is the same desk. Every function takes any bytes and any desk.
 ghost use mathlib.Core.Path.{_≡_};
-ghost use lib.Seq.{sets};
-ghost use Rattle.desk_bytes.specs.Encoding.{deskBytes, deskIn, sameBytes};
+ghost use Rattle.desk_bytes.specs.Encoding.{deskBytes, storedDesk, deskIn, sameBytes};
 use desk::Desk;
 
 mod reading;
@@ -13,7 +12,7 @@ pub const LENGTH: usize = 520;
 
 // Stores a desk at the start of the bytes; a byte past their end is not stored.
 pub fn encode(d: Desk, s: &mut [u8])
-    ensures { λ r. ⌜ now (s .exit) ≡ sets (now (s .entry)) 0 (deskBytes d) ⌝ }
+    ensures { λ r. ⌜ now (s .exit) ≡ storedDesk (now (s .entry)) d ⌝ }
 {
     storing::put_head(s);
     storing::put_zones(d, s);

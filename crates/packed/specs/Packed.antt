@@ -1,4 +1,5 @@
--- Answers of several values as one number: the code in its lowest byte, and the other values above it.
+-- Answers of several values as one number: the code in its lowest byte, and the other values above it. Every value of the desk's answers
+-- fits its byte.
 use mathlib.Core.Bool.{cond}
 use Prim.Native.Nat.{ℕ, _+_, _*_}
 use Rattle.zone.specs.declared.Regime.{Regime}

@@ -1,8 +1,8 @@
--- The law of the unit: records heard one by one, each by the bytes that the one before left, get the answers of replaying them as a
--- journal, and the two questions are answered alike afterwards.
+-- The law of the unit, proved: records heard one by one get what replaying them as a journal gives. The minutes are 0 before each call;
+-- `any-minutes` says what others change.
 -- Assumes nothing.
 use mathlib.Core.Path.{_≡_, refl, ap, ap₂, _∙_}
-use mathlib.Core.Bool.{Bool, true, false, true≢false}
+use mathlib.Core.Bool.{Bool, true, false, cond, true≢false}
 use mathlib.Core.List.{List, [], _∷_, map}
 use Prim.Native.Nat.{ℕ, zero, suc, _+_}
 use lib.Dec.{eqb, ltb, lit<}
@@ -26,11 +26,11 @@ use Rattle.history.specs.Lists.{bytes, Reply, after, answers}
 use Rattle.history.specs.Demand3.{ours}
 use Rattle.history.specs.Replay.{inputsOf, storedFrom, ran, replayed, movementReplayed, workReplayed}
 use Rattle.history.proofs.Hearing.{hear-refused}
-use Rattle.desk_bytes.specs.Encoding.{deskBytes}
+use Rattle.desk_bytes.specs.Encoding.{deskBytes, deskIn, isDesk}
 use Rattle.desk_bytes.proofs.Typed.{TypedDesk}
 use Rattle.desk_bytes.proofs.RoundTrip.{decoded-encoded, encoded-is-desk}
-use Rattle.unit.specs.Unit.{UnitAnswer, unitFresh, kept, unitApplied, unitMovement, unitWork}
-use Rattle.unit.specs.OneByOne.{replyOf, unitAnswers, unitAfter}
+use Rattle.unit.specs.Unit.{UnitAnswer, unitFresh, stored, unitApplied, unitMovement, unitWork}
+use Rattle.unit.specs.OneByOne.{replyOf, unitAnswers, unitAfter, OneByOne}
 use Rattle.unit.proofs.Typed.{fresh-typed, applied-typed}
 
 -- a refused message has 0 minutes, a refused record too
@@ -58,16 +58,16 @@ refused-minutes st d s other =
     go true p false q inside r = rw (p, q)
     go false p fields q inside r = rw p
 
--- what a unit keeps of a desk's answer is that answer, as bytes, also where the record is refused: then nothing has changed
-kept-as : (st : Station) (d : Desk) (r : List ℕ)
+-- what a unit stores of a desk's answer is that answer, as bytes, also where the record is refused: then nothing has changed
+stored-as : (st : Station) (d : Desk) (r : List ℕ)
     → let a = appliedRecord st d r in
-    kept (deskBytes d) 0 a ≡ record { code = a .code; bytes = deskBytes (a .desk); minutes = a .minutes }
-unfolding kept
-kept-as st d r = go (eqb (appliedRecord st d r .code) 0) refl
+    stored (deskBytes d) 0 a ≡ record { code = a .code; bytes = deskBytes (a .desk); minutes = a .minutes }
+unfolding stored
+stored-as st d r = go (eqb (appliedRecord st d r .code) 0) refl
   where
     go : (b : Bool) → eqb (appliedRecord st d r .code) 0 ≡ b
         → let a = appliedRecord st d r in
-        kept (deskBytes d) 0 a ≡ record { code = a .code; bytes = deskBytes (a .desk); minutes = a .minutes }
+        stored (deskBytes d) 0 a ≡ record { code = a .code; bytes = deskBytes (a .desk); minutes = a .minutes }
     go true p = rw (p, eqb-true (appliedRecord st d r .code) 0 p)
     go false p = rw (p, hear-refused st d (bytes r) p, refused-minutes st d r p)
 
@@ -78,7 +78,7 @@ hears-as : (sheet : List ℕ) → readSheet sheet .code ≡ 0 → (d : Desk) →
 unfolding unitApplied
 hears-as sheet good d fits r =
     rw (eq-eqb (readSheet sheet .code) 0 good, encoded-is-desk d fits, decoded-encoded d fits)
-    (kept-as (readSheet sheet .station) d r)
+    (stored-as (readSheet sheet .station) d r)
 
 pub one-apply : (sheet : List ℕ) → readSheet sheet .code ≡ 0 → (d : Desk) → TypedDesk d → (r : List ℕ)
     → let a = appliedRecord (readSheet sheet .station) d r in
@@ -139,21 +139,6 @@ records-bytes s byte = from 0 (counted s)
     from n (suc k) zero = record-bytes s byte n
     from n (suc k) (suc i) = from (n + 1) k i
 
--- The records of a journal, heard one by one from the fresh desk by the unit of an accepted sheet: the answers are those that replaying
--- stores, and afterwards the unit answers both questions as they are answered after replaying.
-pub record OneByOne (sheet journal : List ℕ) : Type 0 where
-  pub answers :
-      (buffer : List ℕ) → ltb (length buffer) (answerPlace (counted journal)) ≡ false
-      → replayed sheet journal buffer
-      ≡ record { code = 0; bytes = storedFrom buffer 0 (unitAnswers sheet (deskBytes freshDesk) (records journal)) }
-  pub movement :
-      (zone train : ℕ)
-      → unitMovement sheet (unitAfter sheet (deskBytes freshDesk) (records journal)) zone train
-      ≡ movementReplayed sheet journal zone train
-  pub work :
-      (turnout : ℕ)
-      → unitWork sheet (unitAfter sheet (deskBytes freshDesk) (records journal)) turnout ≡ workReplayed sheet journal turnout
-
 pub one-by-one : (sheet journal : List ℕ) → Bytes journal → readSheet sheet .code ≡ 0 → journalNumber journal ≡ 0 → OneByOne sheet journal
 unfolding replayed ran inputsOf movementReplayed workReplayed unitMovement unitWork
 one-by-one sheet journal byte good whole =
@@ -171,6 +156,24 @@ one-by-one sheet journal byte good whole =
       movement = λ zone train. rw (accepted, journal-good, last, told, back);
       work = λ turnout. rw (accepted, journal-good, last, told, back);
     }
+
+-- minutes that are not 0 before a call change neither its code nor the bytes, and stay where the record is refused
+pub any-minutes : (sheet desk r : List ℕ) (minutes : ℕ)
+    → let a = unitApplied sheet desk r 0 in
+    unitApplied sheet desk r minutes ≡ record { code = a .code; bytes = a .bytes; minutes = cond (eqb (a .code) 0) (a .minutes) minutes }
+unfolding unitApplied stored
+any-minutes sheet desk r minutes =
+    go (eqb (readSheet sheet .code) 0) refl (isDesk desk) refl
+    (eqb (appliedRecord (readSheet sheet .station) (deskIn desk) r .code) 0) refl
+  where
+    go : (good : Bool) → eqb (readSheet sheet .code) 0 ≡ good → (told : Bool) → isDesk desk ≡ told
+        → (taken : Bool) → eqb (appliedRecord (readSheet sheet .station) (deskIn desk) r .code) 0 ≡ taken
+        → let a = unitApplied sheet desk r 0 in
+        unitApplied sheet desk r minutes ≡ record { code = a .code; bytes = a .bytes; minutes = cond (eqb (a .code) 0) (a .minutes) minutes }
+    go true p true q true s = rw (p, q, s)
+    go true p true q false s = rw (p, q, s, s)
+    go true p false q taken s = rw (p, q)
+    go false p told q taken s = rw (p, p)
 
 -- the bytes that a unit starts from
 pub starts-fresh : (buffer : List ℕ) → length buffer ≡ 520 → unitFresh buffer .bytes ≡ deskBytes freshDesk

@@ -1,5 +1,6 @@
--- A unit: a desk kept in 520 bytes, heard by and asked of in place. Each call is refused by the sheet's number, then by 61 for bytes that
--- no desk encodes to (also bytes of another length), then as the desk refuses it; a refusal leaves the bytes and the minutes as they were.
+-- A unit: a desk kept in 520 bytes that the caller lends at each call. A record or a question is refused by the sheet's number, then by
+-- 61 for bytes that no desk encodes to (also bytes of another length), then as the desk refuses it; a fresh desk by 61 for a buffer of
+-- another length. A refusal leaves the bytes and the minutes as they were.
 use mathlib.Core.Bool.{cond, not, false}
 use mathlib.Core.List.{List}
 use Prim.Native.Nat.{ℕ}
@@ -26,8 +27,8 @@ pub record UnitAnswer : Type 0 where
   pub minutes : ℕ
 
 -- the answer of the desk, stored where it accepts
-unfoldable pub kept : List ℕ → ℕ → Applied → UnitAnswer
-kept desk minutes a =
+unfoldable pub stored : List ℕ → ℕ → Applied → UnitAnswer
+stored desk minutes a =
     cond (eqb (a .code) 0)
     (record { code = 0; bytes = deskBytes (a .desk); minutes = a .minutes })
     (record { code = a .code; bytes = desk; minutes = minutes })
@@ -37,7 +38,7 @@ unfoldable pub unitApplied : List ℕ → List ℕ → List ℕ → ℕ → Unit
 unitApplied sheet desk bytes minutes =
     cond (not (eqb (readSheet sheet .code) 0)) (record { code = readSheet sheet .code; bytes = desk; minutes = minutes })
     (cond (not (isDesk desk)) (record { code = 61; bytes = desk; minutes = minutes })
-    (kept desk minutes (appliedRecord (readSheet sheet .station) (deskIn desk) bytes)))
+    (stored desk minutes (appliedRecord (readSheet sheet .station) (deskIn desk) bytes)))
 
 -- the two questions; a refusal has the values of the desk's refusal
 unfoldable pub unitMovement : List ℕ → List ℕ → ℕ → ℕ → MovementAnswer

@@ -13,35 +13,10 @@
 // this number for each count and this partner for each turnout. The output is the name and the answer.
 mod sheets;
 mod stations;
-mod text;
 
-// Writes a space and a number.
-fn write_number(n: u64) {
-    io::write_all(1, b" ");
-    io::print_decimal(1, n);
-}
-
-// Stores the damage at a place, if there is more; the place after it.
-fn put_pair(s: &mut [u8], input: &[u8], at: usize) -> usize {
-    if text::byte_at(input, at) != b' ' {
-        return at;
-    }
-    let place = text::number_at(input, at);
-    let value = text::number_at(input, place.next);
-    sheets::put(s, place.value as usize, (value.value % 256) as u8);
-    value.next
-}
-
-// Stores the damage from a place on, at most 16 pairs; the place after it.
-fn put_pairs(s: &mut [u8], input: &[u8], at: usize) -> usize {
-    let mut next = at;
-    let mut i: usize = 0;
-    while i < 16 {
-        next = put_pair(s, input, next);
-        i += 1;
-    }
-    next
-}
+use case_rows::number_at;
+use case_rows::put_pairs;
+use case_rows::write_number;
 
 // Writes what reading a sheet gives.
 fn write_reading(s: &[u8], base: u16) {
@@ -72,7 +47,7 @@ fn sheet_of(base: u16) -> u16 {
 
 // Tries the sheet that the line has from a place on; the place after it.
 fn sheet_tried(input: &[u8], base: u16, at: usize) -> usize {
-    let n = text::number_at(input, at);
+    let n = number_at(input, at);
     let mut s = [0u8; 2312];
     sheets::put_base(&mut s, sheet_of(base));
     let next = put_pairs(&mut s, input, n.next);
@@ -82,9 +57,9 @@ fn sheet_tried(input: &[u8], base: u16, at: usize) -> usize {
 
 // Tries the question that the line has from a place on; the place after it.
 fn question_tried(input: &[u8], question: u16, at: usize) -> usize {
-    let count = text::number_at(input, at);
-    let partner = text::number_at(input, count.next);
-    let n = text::number_at(input, partner.next);
+    let count = number_at(input, at);
+    let partner = number_at(input, count.next);
+    let n = number_at(input, partner.next);
     let st = stations::asked(count.value, partner.value);
     write_number(stations::answer(st, question, n.value));
     n.next
@@ -92,7 +67,7 @@ fn question_tried(input: &[u8], question: u16, at: usize) -> usize {
 
 // Tries what stands after the name; the place after it.
 fn rest_tried(input: &[u8], at: usize) -> usize {
-    let first = text::number_at(input, at);
+    let first = number_at(input, at);
     if first.value < 10 {
         return sheet_tried(input, first.value, first.next);
     }
@@ -101,16 +76,16 @@ fn rest_tried(input: &[u8], at: usize) -> usize {
 
 // Tries the line at a place, if there is one and it is no remark; the place of the next line.
 fn line_tried(input: &[u8], at: usize) -> usize {
-    let first = text::byte_at(input, at);
+    let first = case_rows::byte_at(input, at);
     if first == b'\n' {
         return at;
     }
     if first == b'#' {
-        return text::after_line(input, at);
+        return case_rows::after_line(input, at);
     }
-    let next = rest_tried(input, text::name(input, at));
+    let next = rest_tried(input, case_rows::name(input, at));
     io::write_all(1, b"\n");
-    text::after(next)
+    case_rows::after(next)
 }
 
 // Tries every line, at most 400.

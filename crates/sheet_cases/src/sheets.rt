@@ -1,14 +1,8 @@
 // The sheets that the cases start from, put into a buffer that is 0.
+use case_rows::put;
 
 // A set with one turnout below 8.
 const ONE: [u8; 8] = [1, 2, 4, 8, 16, 32, 64, 128];
-
-// Stores a byte, if there is such a place.
-pub fn put(s: &mut [u8], at: usize, value: u8) {
-    if at < s.len() {
-        s[at] = value;
-    }
-}
 
 // Stores bytes one after another from a place on.
 fn put_bytes(s: &mut [u8], at: usize, bytes: &[u8]) {

@@ -1,8 +1,8 @@
 -- The digits are read in turn; the turns left fall.
 use Prim.Native.Nat.{_-_}
 use borrow.Author.Needs.{needs}
-use Rattle.sheet_cases.proofs.text.number_at.Statement.{statement}
-use Rattle.sheet_cases.proofs.text.number_at.Tie as tie
+use Rattle.case_rows.proofs.number_at.Statement.{statement}
+use Rattle.case_rows.proofs.number_at.Tie as tie
 
 abbrev Inv-loop : tie.InvT-loop
 Inv-loop text at n₀ i₀ n i = Unit

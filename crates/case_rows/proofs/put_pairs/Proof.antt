@@ -3,8 +3,8 @@ use Prim.Native.Nat.{_-_}
 use mathlib.Core.Path.{_≡_}
 use lib.ListN.{length}
 use borrow.Author.Needs.{needs}
-use Rattle.sheet_cases.proofs.put_pairs.Statement.{statement}
-use Rattle.sheet_cases.proofs.put_pairs.Tie as tie
+use Rattle.case_rows.proofs.put_pairs.Statement.{statement}
+use Rattle.case_rows.proofs.put_pairs.Tie as tie
 
 abbrev Inv-loop : tie.InvT-loop
 Inv-loop s₀ input at next₀ i₀ s next i = length s ≡ length s₀

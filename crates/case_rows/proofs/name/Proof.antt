@@ -1,8 +1,8 @@
 -- The letters of a name are written in turn; the turns left fall.
 use Prim.Native.Nat.{_-_}
 use borrow.Author.Needs.{needs}
-use Rattle.sheet_cases.proofs.text.name.Statement.{statement}
-use Rattle.sheet_cases.proofs.text.name.Tie as tie
+use Rattle.case_rows.proofs.name.Statement.{statement}
+use Rattle.case_rows.proofs.name.Tie as tie
 
 abbrev Inv-loop : tie.InvT-loop
 Inv-loop text at next₀ i₀ next i = Unit

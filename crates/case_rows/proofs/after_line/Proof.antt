@@ -1,8 +1,8 @@
 -- The bytes of a line are passed in turn; the turns left fall.
 use Prim.Native.Nat.{_-_}
 use borrow.Author.Needs.{needs}
-use Rattle.sheet_cases.proofs.text.after_line.Statement.{statement}
-use Rattle.sheet_cases.proofs.text.after_line.Tie as tie
+use Rattle.case_rows.proofs.after_line.Statement.{statement}
+use Rattle.case_rows.proofs.after_line.Tie as tie
 
 abbrev Inv-loop : tie.InvT-loop
 Inv-loop text at next₀ i₀ next i = Unit

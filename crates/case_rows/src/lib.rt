@@ -1,4 +1,6 @@
-// The words and numbers of the program's input, read from a place on. A place past the end reads as the end of a line.
+// The rows of a test program's input: the name that a row starts with, which is written out again, and its numbers, with a space
+// before each. They are read from a place on; a place past the end reads as the end of a line. The last numbers of a row may be
+// damage: pairs of a place and the byte that is put there.
 
 // A number, and the place after it.
 pub struct Parsed {
@@ -86,4 +88,39 @@ pub fn after_line(text: &[u8], at: usize) -> usize {
         i += 1;
     }
     after(next)
+}
+
+// Writes a space and a number.
+pub fn write_number(n: u64) {
+    io::write_all(1, b" ");
+    io::print_decimal(1, n);
+}
+
+// Stores a byte, if there is such a place.
+pub fn put(s: &mut [u8], at: usize, value: u8) {
+    if at < s.len() {
+        s[at] = value;
+    }
+}
+
+// Stores the damage at a place, if there is more; the place after it.
+fn put_pair(s: &mut [u8], input: &[u8], at: usize) -> usize {
+    if byte_at(input, at) != b' ' {
+        return at;
+    }
+    let place = number_at(input, at);
+    let value = number_at(input, place.next);
+    put(s, place.value as usize, (value.value % 256) as u8);
+    value.next
+}
+
+// Stores the damage from a place on, at most 16 pairs; the place after it.
+pub fn put_pairs(s: &mut [u8], input: &[u8], at: usize) -> usize {
+    let mut next = at;
+    let mut i: usize = 0;
+    while i < 16 {
+        next = put_pair(s, input, next);
+        i += 1;
+    }
+    next
 }

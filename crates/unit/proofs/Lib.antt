@@ -1,2 +1,3 @@
+pub mod Started
 pub mod Typed
 pub mod OneByOne

@@ -26,10 +26,10 @@ use Rattle.history.specs.Lists.{bytes, Reply, after, answers}
 use Rattle.history.specs.Demand3.{ours}
 use Rattle.history.specs.Replay.{inputsOf, storedFrom, ran, replayed, movementReplayed, workReplayed}
 use Rattle.history.proofs.Hearing.{hear-refused}
-use Rattle.desk_bytes.specs.Encoding.{deskBytes, deskIn, isDesk}
+use Rattle.desk_bytes.specs.Encoding.{deskBytes}
 use Rattle.desk_bytes.proofs.Typed.{TypedDesk}
 use Rattle.desk_bytes.proofs.RoundTrip.{decoded-encoded, encoded-is-desk}
-use Rattle.unit.specs.Unit.{UnitAnswer, unitFresh, stored, unitApplied, unitMovement, unitWork}
+use Rattle.unit.specs.Unit.{UnitAnswer, unitFresh, started, stored, unitApplied, unitMovement, unitWork}
 use Rattle.unit.specs.OneByOne.{replyOf, unitAnswers, unitAfter, OneByOne}
 use Rattle.unit.proofs.Typed.{fresh-typed, applied-typed}
 
@@ -75,7 +75,7 @@ stored-as st d r = go (eqb (appliedRecord st d r .code) 0) refl
 hears-as : (sheet : List ℕ) → readSheet sheet .code ≡ 0 → (d : Desk) → TypedDesk d → (r : List ℕ)
     → let a = appliedRecord (readSheet sheet .station) d r in
     unitApplied sheet (deskBytes d) r 0 ≡ record { code = a .code; bytes = deskBytes (a .desk); minutes = a .minutes }
-unfolding unitApplied
+unfolding unitApplied started
 hears-as sheet good d fits r =
     rw (eq-eqb (readSheet sheet .code) 0 good, encoded-is-desk d fits, decoded-encoded d fits)
     (stored-as (readSheet sheet .station) d r)
@@ -140,7 +140,7 @@ records-bytes s byte = from 0 (counted s)
     from n (suc k) (suc i) = from (n + 1) k i
 
 pub one-by-one : (sheet journal : List ℕ) → Bytes journal → readSheet sheet .code ≡ 0 → journalNumber journal ≡ 0 → OneByOne sheet journal
-unfolding replayed ran inputsOf movementReplayed workReplayed unitMovement unitWork
+unfolding replayed ran inputsOf movementReplayed workReplayed started unitMovement unitWork
 one-by-one sheet journal byte good whole =
     let rs = records journal in
     let each = records-bytes journal byte in
@@ -163,17 +163,16 @@ pub any-minutes : (sheet desk r : List ℕ) (minutes : ℕ)
     unitApplied sheet desk r minutes ≡ record { code = a .code; bytes = a .bytes; minutes = cond (eqb (a .code) 0) (a .minutes) minutes }
 unfolding unitApplied stored
 any-minutes sheet desk r minutes =
-    go (eqb (readSheet sheet .code) 0) refl (isDesk desk) refl
-    (eqb (appliedRecord (readSheet sheet .station) (deskIn desk) r .code) 0) refl
+    let at = started sheet desk in
+    go (eqb (at .code) 0) refl (eqb (appliedRecord (at .station) (at .desk) r .code) 0) refl
   where
-    go : (good : Bool) → eqb (readSheet sheet .code) 0 ≡ good → (told : Bool) → isDesk desk ≡ told
-        → (taken : Bool) → eqb (appliedRecord (readSheet sheet .station) (deskIn desk) r .code) 0 ≡ taken
+    go : (good : Bool) → eqb (started sheet desk .code) 0 ≡ good
+        → (taken : Bool) → eqb (appliedRecord (started sheet desk .station) (started sheet desk .desk) r .code) 0 ≡ taken
         → let a = unitApplied sheet desk r 0 in
         unitApplied sheet desk r minutes ≡ record { code = a .code; bytes = a .bytes; minutes = cond (eqb (a .code) 0) (a .minutes) minutes }
-    go true p true q true s = rw (p, q, s)
-    go true p true q false s = rw (p, q, s, s)
-    go true p false q taken s = rw (p, q)
-    go false p told q taken s = rw (p, p)
+    go true p true q = rw (p, q)
+    go true p false q = rw (p, q, q)
+    go false p taken q = rw (p, p)
 
 -- the bytes that a unit starts from
 pub starts-fresh : (buffer : List ℕ) → length buffer ≡ 520 → unitFresh buffer .bytes ≡ deskBytes freshDesk

@@ -1,7 +1,7 @@
 -- A unit: a desk kept in 520 bytes that the caller lends at each call. A record or a question is refused by the sheet's number, then by
 -- 61 for bytes that no desk encodes to (also bytes of another length), then as the desk refuses it; a fresh desk by 61 for a buffer of
 -- another length. A refusal leaves the bytes and the minutes as they were.
-use mathlib.Core.Bool.{cond, not, false}
+use mathlib.Core.Bool.{cond, false}
 use mathlib.Core.List.{List}
 use Prim.Native.Nat.{ℕ}
 use lib.Dec.{eqb}
@@ -14,11 +14,21 @@ use Rattle.desk.specs.declared.WorkAnswer.{WorkAnswer}
 use Rattle.desk.specs.Desk.{freshDesk, appliedRecord}
 use Rattle.desk.specs.Questions.{movementRefused, movementAnswered, workAnswered}
 use Rattle.desk_bytes.specs.Encoding.{deskBytes, deskIn, isDesk}
+use Rattle.unit.specs.declared.Start.{Start}
 
 -- the fresh desk in a buffer of its length
 unfoldable pub unitFresh : List ℕ → WriteAnswer
 unitFresh desk =
     cond (eqb (length desk) 520) (record { code = 0; bytes = deskBytes freshDesk }) (record { code = 61; bytes = desk })
+
+-- What a record or a question starts from: the sheet's station, the desk that stands in the bytes, and the number that refuses them, the
+-- sheet's, then 61; 0 where both are good.
+unfoldable pub started : List ℕ → List ℕ → Start
+started sheet desk = record {
+  code = cond (eqb (readSheet sheet .code) 0) (cond (isDesk desk) 0 61) (readSheet sheet .code);
+  station = readSheet sheet .station;
+  desk = deskIn desk;
+}
 
 -- what hearing a record leaves: the code, the desk's bytes, the minutes
 pub record UnitAnswer : Type 0 where
@@ -36,19 +46,17 @@ stored desk minutes a =
 -- a record heard by the unit
 unfoldable pub unitApplied : List ℕ → List ℕ → List ℕ → ℕ → UnitAnswer
 unitApplied sheet desk bytes minutes =
-    cond (not (eqb (readSheet sheet .code) 0)) (record { code = readSheet sheet .code; bytes = desk; minutes = minutes })
-    (cond (not (isDesk desk)) (record { code = 61; bytes = desk; minutes = minutes })
-    (stored desk minutes (appliedRecord (readSheet sheet .station) (deskIn desk) bytes)))
+    let at = started sheet desk in
+    cond (eqb (at .code) 0) (stored desk minutes (appliedRecord (at .station) (at .desk) bytes))
+    (record { code = at .code; bytes = desk; minutes = minutes })
 
 -- the two questions; a refusal has the values of the desk's refusal
 unfoldable pub unitMovement : List ℕ → List ℕ → ℕ → ℕ → MovementAnswer
 unitMovement sheet desk zone train =
-    cond (not (eqb (readSheet sheet .code) 0)) (movementRefused (readSheet sheet .code))
-    (cond (not (isDesk desk)) (movementRefused 61)
-    (movementAnswered (readSheet sheet .station) (deskIn desk) zone train))
+    let at = started sheet desk in
+    cond (eqb (at .code) 0) (movementAnswered (at .station) (at .desk) zone train) (movementRefused (at .code))
 
 unfoldable pub unitWork : List ℕ → List ℕ → ℕ → WorkAnswer
 unitWork sheet desk turnout =
-    cond (not (eqb (readSheet sheet .code) 0)) (record { code = readSheet sheet .code; yes = false })
-    (cond (not (isDesk desk)) (record { code = 61; yes = false })
-    (workAnswered (readSheet sheet .station) (deskIn desk) turnout))
+    let at = started sheet desk in
+    cond (eqb (at .code) 0) (workAnswered (at .station) (at .desk) turnout) (record { code = at .code; yes = false })

@@ -4,10 +4,11 @@
 // before each call, get what replaying them gives.
 ghost use mathlib.Core.Path.{_≡_};
 ghost use Rattle.packed.specs.Packed.{movementPacked, workPacked};
-ghost use Rattle.unit.specs.Unit.{unitFresh, unitApplied, unitMovement, unitWork};
+ghost use Rattle.unit.specs.Unit.{unitFresh, started, unitApplied, unitMovement, unitWork};
 use desk::Desk;
 use desk::MovementAnswer;
 use desk::WorkAnswer;
+use station::Station;
 
 // The number that refuses bytes that no desk encodes to.
 pub const NOT_A_DESK: u8 = 61;
@@ -24,21 +25,52 @@ pub extern "C" fn unit_fresh(desk: &mut [u8]) -> u8
     0
 }
 
+// What a record or a question starts from: 0, the sheet's station and the desk; or the number that refuses them.
+struct Start {
+    code: u8,
+    station: Station,
+    desk: Desk,
+}
+
+// Reads the sheet and the desk. Refused by the sheet's number, then by 61.
+fn read_both(sheet: &[u8], desk: &[u8]) -> Start
+    ensures { λ r. ⌜ r ≡ started (now (sheet .entry)) (now (desk .entry)) ⌝ }
+{
+    let read = sheet::read_sheet(sheet);
+    let station = read.station;
+    let d = desk_bytes::decode(desk);
+    if read.code != 0 {
+        return Start {
+            code: read.code,
+            station,
+            desk: d,
+        };
+    }
+    if !desk_bytes::is_encoding(desk, d) {
+        return Start {
+            code: NOT_A_DESK,
+            station,
+            desk: d,
+        };
+    }
+    Start {
+        code: 0,
+        station,
+        desk: d,
+    }
+}
+
 // Hears a record; where it is accepted, stores the desk then and the minutes. Refused by the sheet's number, by 61, then as the desk
 // refuses the record.
 #[no_mangle]
 pub extern "C" fn unit_apply(sheet: &[u8], desk: &mut [u8], record: &[u8], minutes: &mut u32) -> u8
     ensures { λ r. ⌜ record { code = r; bytes = now (desk .exit); minutes = now (minutes .exit) } ≡ unitApplied (now (sheet .entry)) (now (desk .entry)) (now («record» .entry)) (now (minutes .entry)) ⌝ }
 {
-    let read = sheet::read_sheet(sheet);
-    if read.code != 0 {
-        return read.code;
+    let at = read_both(sheet, desk);
+    if at.code != 0 {
+        return at.code;
     }
-    let d = desk_bytes::decode(desk);
-    if !desk_bytes::is_encoding(desk, d) {
-        return NOT_A_DESK;
-    }
-    let a = desk::apply_record(read.station, d, record);
+    let a = desk::apply_record(at.station, at.desk, record);
     if a.code != 0 {
         return a.code;
     }
@@ -50,15 +82,11 @@ pub extern "C" fn unit_apply(sheet: &[u8], desk: &mut [u8], record: &[u8], minut
 fn movement(sheet: &[u8], desk: &[u8], zone: u8, train: u32) -> MovementAnswer
     ensures { λ r. ⌜ r ≡ unitMovement (now (sheet .entry)) (now (desk .entry)) zone train ⌝ }
 {
-    let read = sheet::read_sheet(sheet);
-    if read.code != 0 {
-        return desk::movement_refused(read.code);
+    let at = read_both(sheet, desk);
+    if at.code != 0 {
+        return desk::movement_refused(at.code);
     }
-    let d = desk_bytes::decode(desk);
-    if !desk_bytes::is_encoding(desk, d) {
-        return desk::movement_refused(NOT_A_DESK);
-    }
-    desk::query_movement(read.station, d, zone, train)
+    desk::query_movement(at.station, at.desk, zone, train)
 }
 
 // The movement question: the code, the regime, the lowest turnout lacking a clearance, how many lack one, a byte each.
@@ -72,21 +100,14 @@ pub extern "C" fn unit_movement(sheet: &[u8], desk: &[u8], zone: u8, train: u32)
 fn work(sheet: &[u8], desk: &[u8], turnout: u8) -> WorkAnswer
     ensures { λ r. ⌜ r ≡ unitWork (now (sheet .entry)) (now (desk .entry)) turnout ⌝ }
 {
-    let read = sheet::read_sheet(sheet);
-    if read.code != 0 {
+    let at = read_both(sheet, desk);
+    if at.code != 0 {
         return WorkAnswer {
-            code: read.code,
+            code: at.code,
             yes: false,
         };
     }
-    let d = desk_bytes::decode(desk);
-    if !desk_bytes::is_encoding(desk, d) {
-        return WorkAnswer {
-            code: NOT_A_DESK,
-            yes: false,
-        };
-    }
-    desk::query_work(read.station, d, turnout)
+    desk::query_work(at.station, at.desk, turnout)
 }
 
 // The work question: the code, and 256 if the turnout is open to work.

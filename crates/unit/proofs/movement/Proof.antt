@@ -1,10 +1,5 @@
 -- `unit::movement` meets its contract: each way out is a case of the rule. Assumes nothing.
-use denote.Ref.{now}
-use mathlib.Core.Path.{_≡_, sym, ap, _∙_}
-use mathlib.Core.Bool.{true, false}
-use Rattle.desk.specs.declared.Desk.{Desk}
-use Rattle.desk_bytes.specs.Encoding.{deskBytes, sameBytes, isDesk}
-use borrow.Author.Tests.{eq-eqb, ne-eqb, not-true, not-false}
+use borrow.Author.Tests.{eq-eqb, ne-eqb}
 use Rattle.unit.specs.Unit.{unitMovement}
 use borrow.Author.Needs.{needs}
 use Rattle.unit.proofs.movement.Statement.{statement}
@@ -13,24 +8,14 @@ use Rattle.unit.proofs.movement.Tie as tie
 returns : tie.Need-returns
 unfolding unitMovement
 returns c =
-    let sheet = c .before .before .before .read-sheet in
-    rw (c .movement-refused .ensures, ← sheet .ensures, ne-eqb (sheet .result .code) 0 (c .before .if1 .taken))
+    let at = c .before .before .before .read-both in
+    rw (c .movement-refused .ensures, ← at .ensures, ne-eqb (at .result .code) 0 (c .before .if1 .taken))
 
 returns-2 : tie.Need-returns-2
-unfolding unitMovement isDesk
+unfolding unitMovement
 returns-2 c =
-    let sheet = c .before .before .before .before .before .before .read-sheet in
-    let s = now (c .before .before .before .before .before .before .before .before .before .args .desk) in
-    let told : isDesk s ≡ false = sym (c .before .before .is-encoding .ensures ∙ ap (λ (d : Desk). sameBytes s (deskBytes d)) (c .before .before .before .decode .ensures)) ∙ not-true (c .before .before .is-encoding .result) (c .before .if2 .taken) in
-    rw (c .movement-refused2 .ensures, ← sheet .ensures, eq-eqb (sheet .result .code) 0 (c .before .before .before .before .if1 .left), told)
-
-returns-3 : tie.Need-returns-3
-unfolding unitMovement isDesk
-returns-3 c =
-    let sheet = c .before .before .before .before .before .before .read-sheet in
-    let s = now (c .before .before .before .before .before .before .before .before .before .args .desk) in
-    let told : isDesk s ≡ true = sym (c .before .before .is-encoding .ensures ∙ ap (λ (d : Desk). sameBytes s (deskBytes d)) (c .before .before .before .decode .ensures)) ∙ not-false (c .before .before .is-encoding .result) (c .before .if2 .left) in
-    rw (c .query-movement .ensures, c .before .before .before .decode .ensures, ← sheet .ensures, eq-eqb (sheet .result .code) 0 (c .before .before .before .before .if1 .left), told)
+    let at = c .before .before .before .read-both in
+    rw (c .query-movement .ensures, ← at .ensures, eq-eqb (at .result .code) 0 (c .before .if1 .left))
 
 pub movement-spec : {M : Type 1} → statement M
 movement-spec =
@@ -40,8 +25,4 @@ movement-spec =
     (λ c κs. search needs)
     returns
     (λ c κs. search needs)
-    (λ c κs. search needs)
-    (λ c κs. search needs)
-    returns-2
-    (λ c κs. search needs)
-    returns-3)
+    returns-2)

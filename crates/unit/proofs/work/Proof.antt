@@ -1,10 +1,5 @@
 -- `unit::work` meets its contract: each way out is a case of the rule. Assumes nothing.
-use denote.Ref.{now}
-use mathlib.Core.Path.{_≡_, sym, ap, _∙_}
-use mathlib.Core.Bool.{true, false}
-use Rattle.desk.specs.declared.Desk.{Desk}
-use Rattle.desk_bytes.specs.Encoding.{deskBytes, sameBytes, isDesk}
-use borrow.Author.Tests.{eq-eqb, ne-eqb, not-true, not-false}
+use borrow.Author.Tests.{eq-eqb, ne-eqb}
 use Rattle.unit.specs.Unit.{unitWork}
 use borrow.Author.Needs.{needs}
 use Rattle.unit.proofs.work.Statement.{statement}
@@ -13,33 +8,14 @@ use Rattle.unit.proofs.work.Tie as tie
 returns : tie.Need-returns
 unfolding unitWork
 returns c =
-    let sheet = c .before .before .read-sheet in
-    rw (← sheet .ensures, ne-eqb (sheet .result .code) 0 (c .if1 .taken))
+    let at = c .before .before .read-both in
+    rw (← at .ensures, ne-eqb (at .result .code) 0 (c .if1 .taken))
 
 returns-2 : tie.Need-returns-2
-unfolding unitWork isDesk
+unfolding unitWork
 returns-2 c =
-    let sheet = c .before .before .before .before .before .read-sheet in
-    let s = now (c .before .before .before .before .before .before .before .before .args .desk) in
-    let told : isDesk s ≡ false = sym (c .before .is-encoding .ensures ∙ ap (λ (d : Desk). sameBytes s (deskBytes d)) (c .before .before .decode .ensures)) ∙ not-true (c .before .is-encoding .result) (c .if2 .taken) in
-    rw (← sheet .ensures, eq-eqb (sheet .result .code) 0 (c .before .before .before .if1 .left), told)
-
-returns-3 : tie.Need-returns-3
-unfolding unitWork isDesk
-returns-3 c =
-    let sheet = c .before .before .before .before .before .before .read-sheet in
-    let s = now (c .before .before .before .before .before .before .before .before .before .args .desk) in
-    let told : isDesk s ≡ true = sym (c .before .before .is-encoding .ensures ∙ ap (λ (d : Desk). sameBytes s (deskBytes d)) (c .before .before .before .decode .ensures)) ∙ not-false (c .before .before .is-encoding .result) (c .before .if2 .left) in
-    rw (c .query-work .ensures, c .before .before .before .decode .ensures, ← sheet .ensures, eq-eqb (sheet .result .code) 0 (c .before .before .before .before .if1 .left), told)
+    let at = c .before .before .before .read-both in
+    rw (c .query-work .ensures, ← at .ensures, eq-eqb (at .result .code) 0 (c .before .if1 .left))
 
 pub work-spec : {M : Type 1} → statement M
-work-spec =
-    tie.close
-    (tie.spec
-    (λ c κs. search needs)
-    returns
-    (λ c κs. search needs)
-    (λ c κs. search needs)
-    returns-2
-    (λ c κs. search needs)
-    returns-3)
+work-spec = tie.close (tie.spec (λ c κs. search needs) returns (λ c κs. search needs) returns-2)

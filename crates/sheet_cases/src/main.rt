@@ -16,7 +16,12 @@ mod stations;
 
 use case_rows::number_at;
 use case_rows::put_pairs;
-use case_rows::write_number;
+
+// Writes a space and a number.
+fn write_number(n: u64) {
+    io::write_all(1, b" ");
+    io::print_decimal(1, n);
+}
 
 // Writes what reading a sheet gives.
 fn write_reading(s: &[u8], base: u16) {
@@ -83,7 +88,8 @@ fn line_tried(input: &[u8], at: usize) -> usize {
     if first == b'#' {
         return case_rows::after_line(input, at);
     }
-    let next = rest_tried(input, case_rows::name(input, at));
+    io::write_all(1, case_rows::name(input, at));
+    let next = rest_tried(input, case_rows::after_name(input, at));
     io::write_all(1, b"\n");
     case_rows::after(next)
 }

@@ -4,9 +4,9 @@ use super::parts::ROOM;
 use super::parts::SHEET;
 use super::parts::copy;
 use super::parts::first;
+use super::parts::write_number;
 use case_rows::number_at;
 use case_rows::put_pairs;
-use case_rows::write_number;
 
 // Writes whether two buffers have the same bytes.
 fn write_same(s: &[u8], t: &[u8]) {

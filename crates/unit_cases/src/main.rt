@@ -41,9 +41,10 @@ fn row_tried(
     }
 }
 
-// Tries what stands after the name at a place; the place after it.
+// Writes the name at a place, and tries what stands after it; the place after that.
 fn named_tried(sheet: &[u8], journal: &[u8], desk: &mut [u8], input: &[u8], at: usize) -> usize {
-    let kind = number_at(input, case_rows::name(input, at));
+    io::write_all(1, case_rows::name(input, at));
+    let kind = number_at(input, case_rows::after_name(input, at));
     let next = row_tried(sheet, journal, desk, input, kind.value, kind.next);
     io::write_all(1, b"\n");
     case_rows::after(next)

@@ -1,4 +1,4 @@
-// The lengths of the buffers, and copies and parts of bytes.
+// The lengths of the buffers, copies and parts of bytes, and how a number is written.
 
 // The length of a desk, and of the buffer that holds it.
 pub const DESK: usize = 520;
@@ -26,4 +26,10 @@ pub fn first<'a>(s: &'a [u8], n: usize) -> &'a [u8] {
         return s;
     }
     &s[..n]
+}
+
+// Writes a space and a number.
+pub fn write_number(n: u64) {
+    io::write_all(1, b" ");
+    io::print_decimal(1, n);
 }

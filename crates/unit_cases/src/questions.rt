@@ -2,10 +2,10 @@
 use super::parts::ROOM;
 use super::parts::copy;
 use super::parts::first;
+use super::parts::write_number;
 use case_rows::byte_at;
 use case_rows::number_at;
 use case_rows::put_pairs;
-use case_rows::write_number;
 
 // Kind 3: the place and how many.
 pub fn bytes_tried(desk: &[u8], input: &[u8], at: usize) -> usize {

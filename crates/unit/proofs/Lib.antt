@@ -1,3 +1,5 @@
 pub mod Started
 pub mod Typed
+pub mod Follows
 pub mod OneByOne
+pub mod Demand3

@@ -1,12 +1,12 @@
--- The law of the unit, proved: records heard one by one get what replaying them as a journal gives. The minutes are 0 before each call;
--- `any-minutes` says what others change.
+-- The law of the unit, proved: it hears records as the desk of the contracts does, so records heard one by one get what replaying them as a
+-- journal gives. The minutes are 0 before each call; `any-minutes` says what others change.
 -- Assumes nothing.
-use mathlib.Core.Path.{_≡_, refl, ap, ap₂, _∙_}
+use mathlib.Core.Path.{_≡_, refl, ap, _∙_}
 use mathlib.Core.Bool.{Bool, true, false, cond, true≢false}
 use mathlib.Core.List.{List, [], _∷_, map}
 use Prim.Native.Nat.{ℕ, zero, suc, _+_}
 use lib.Dec.{eqb, ltb, lit<}
-use lib.ListN.{length, getD, take, drop}
+use lib.ListN.{length, take, drop}
 use lib.Seq.{getD-drop}
 use borrow.Author.Tests.{eq-eqb, eqb-true}
 use Rattle.bigendian.proofs.Numbers.{Bytes}
@@ -20,18 +20,19 @@ use Rattle.zone.specs.declared.Zone.{Zone}
 use Rattle.zone.specs.Kinds.{first, row, answered, heard}
 use Rattle.desk.specs.declared.Desk.{Desk}
 use Rattle.desk.specs.Desk.{zoneAt, freshDesk, applied, appliedRecord}
+use Rattle.desk.specs.Questions.{movementAnswered, workAnswered}
 use Rattle.journal.specs.Journal.{journalNumber, counted, recordPlace, recordIn, recordsFrom, records}
-use Rattle.report.specs.Answers.{answerPlace}
-use Rattle.history.specs.Lists.{bytes, Reply, after, answers}
-use Rattle.history.specs.Demand3.{ours}
-use Rattle.history.specs.Replay.{inputsOf, storedFrom, ran, replayed, movementReplayed, workReplayed}
+use Rattle.history.specs.Lists.{Input, message, bytes, after}
+use Rattle.history.specs.Demand3.{hears, ours}
+use Rattle.history.specs.Replay.{inputsOf, ran, replayed, movementReplayed, workReplayed}
 use Rattle.history.proofs.Hearing.{hear-refused}
 use Rattle.desk_bytes.specs.Encoding.{deskBytes}
 use Rattle.desk_bytes.proofs.Typed.{TypedDesk}
 use Rattle.desk_bytes.proofs.RoundTrip.{decoded-encoded, encoded-is-desk}
-use Rattle.unit.specs.Unit.{UnitAnswer, unitFresh, started, stored, unitApplied, unitMovement, unitWork}
-use Rattle.unit.specs.OneByOne.{replyOf, unitAnswers, unitAfter, OneByOne}
+use Rattle.unit.specs.Unit.{unitFresh, started, stored, unitApplied, unitMovement, unitWork}
+use Rattle.unit.specs.OneByOne.{leaves, recordOf, unitOf, OneByOne}
 use Rattle.unit.proofs.Typed.{fresh-typed, applied-typed}
+use Rattle.unit.proofs.Follows.{Each, Follows, good-after, after-same, answers-same}
 
 -- a refused message has 0 minutes, a refused record too
 heard-minutes : (st : Station) (z : Zone) (m : Message) → eqb (heard st z m .code) 0 ≡ false → heard st z m .minutes ≡ 0
@@ -72,7 +73,7 @@ stored-as st d r = go (eqb (appliedRecord st d r .code) 0) refl
     go false p = rw (p, hear-refused st d (bytes r) p, refused-minutes st d r p)
 
 -- a unit of an accepted sheet, whose bytes are a desk's, hears a record as that desk does
-hears-as : (sheet : List ℕ) → readSheet sheet .code ≡ 0 → (d : Desk) → TypedDesk d → (r : List ℕ)
+pub hears-as : (sheet : List ℕ) → readSheet sheet .code ≡ 0 → (d : Desk) → TypedDesk d → (r : List ℕ)
     → let a = appliedRecord (readSheet sheet .station) d r in
     unitApplied sheet (deskBytes d) r 0 ≡ record { code = a .code; bytes = deskBytes (a .desk); minutes = a .minutes }
 unfolding unitApplied started
@@ -80,44 +81,37 @@ hears-as sheet good d fits r =
     rw (eq-eqb (readSheet sheet .code) 0 good, encoded-is-desk d fits, decoded-encoded d fits)
     (stored-as (readSheet sheet .station) d r)
 
-pub one-apply : (sheet : List ℕ) → readSheet sheet .code ≡ 0 → (d : Desk) → TypedDesk d → (r : List ℕ)
-    → let a = appliedRecord (readSheet sheet .station) d r in
-    (replyOf (unitApplied sheet (deskBytes d) r 0) ≡ record { code = a .code; minutes = a .minutes })
-    × (unitApplied sheet (deskBytes d) r 0 .bytes ≡ deskBytes (a .desk))
-one-apply sheet good d fits r =
-    let same = hears-as sheet good d fits r in
-    (ap replyOf same, ap (λ (a : UnitAnswer). a .bytes) same)
+-- an input that is a record of bytes: a unit hears no other
+abbrev pub IsRecord : Input → Type 0
+IsRecord (message m) = ⊥
+IsRecord (bytes s) = Bytes s
 
--- each record of a list is of bytes
-abbrev pub EachBytes : List (List ℕ) → Type 0
-EachBytes rs = (n : ℕ) → Bytes (getD rs n [])
+-- the unit of an accepted sheet follows the desk of the contracts
+unfoldable pub follows : (sheet : List ℕ) → readSheet sheet .code ≡ 0 → Follows (unitOf sheet) ours (readSheet sheet .station) IsRecord
+follows sheet good = record { shown = deskBytes; Good = TypedDesk; step = step; stays = stays }
+  where
+    st : Station
+    st = readSheet sheet .station
 
--- over a list of records: the bounds, the answers and the bytes
-run-typed : (st : Station) (d : Desk) → TypedDesk d → (rs : List (List ℕ)) → EachBytes rs → TypedDesk (after ours st d (map bytes rs))
-unfolding after
-run-typed st d fits [] byte = fits
-run-typed st d fits (r ∷ rs) byte =
-    run-typed st (appliedRecord st d r .desk) (applied-typed st d r fits (byte 0)) rs (λ n. byte (suc n))
+    step : (d : Desk) → TypedDesk d → (i : Input) → IsRecord i
+        → leaves (unitApplied sheet (deskBytes d) (recordOf i) 0) ≡ record { reply = hears st d i .reply; state = deskBytes (hears st d i .state) }
+    step d fits (message m) record-it = absurd record-it
+    step d fits (bytes s) byte = ap leaves (hears-as sheet good d fits s)
 
-module _ (sheet : List ℕ) (good : readSheet sheet .code ≡ 0) where
-  pub answers-same : (d : Desk) → TypedDesk d → (rs : List (List ℕ)) → EachBytes rs → unitAnswers sheet (deskBytes d) rs ≡ answers ours (readSheet sheet .station) d (map bytes rs)
-  unfolding unitAnswers answers
-  answers-same d fits [] byte = refl
-  answers-same d fits (r ∷ rs) byte =
-      let a = appliedRecord (readSheet sheet .station) d r in
-      let one = one-apply sheet good d fits r in
-      let next = applied-typed (readSheet sheet .station) d r fits (byte 0) in
-      ap₂ (λ (x : Reply) (l : List Reply). x ∷ l) (one .0)
-      (ap (λ (s : List ℕ). unitAnswers sheet s rs) (one .1) ∙ answers-same (a .desk) next rs (λ n. byte (suc n)))
+    stays : (d : Desk) → TypedDesk d → (i : Input) → IsRecord i → TypedDesk (hears st d i .state)
+    stays d fits (message m) record-it = absurd record-it
+    stays d fits (bytes s) byte = applied-typed st d s fits byte
 
-  pub desk-same : (d : Desk) → TypedDesk d → (rs : List (List ℕ)) → EachBytes rs → unitAfter sheet (deskBytes d) rs ≡ deskBytes (after ours (readSheet sheet .station) d (map bytes rs))
-  unfolding unitAfter after
-  desk-same d fits [] byte = refl
-  desk-same d fits (r ∷ rs) byte =
-      let a = appliedRecord (readSheet sheet .station) d r in
-      let one = one-apply sheet good d fits r in
-      let next = applied-typed (readSheet sheet .station) d r fits (byte 0) in
-      ap (λ (s : List ℕ). unitAfter sheet s rs) (one .1) ∙ desk-same (a .desk) next rs (λ n. byte (suc n))
+-- the questions put to the bytes of a desk are those put to the desk
+pub movement-asked : (sheet : List ℕ) → readSheet sheet .code ≡ 0 → (d : Desk) → TypedDesk d → (zone train : ℕ) → unitMovement sheet (deskBytes d) zone train ≡ movementAnswered (readSheet sheet .station) d zone train
+unfolding unitMovement started
+movement-asked sheet good d fits zone train =
+    rw (eq-eqb (readSheet sheet .code) 0 good, encoded-is-desk d fits, decoded-encoded d fits)
+
+pub work-asked : (sheet : List ℕ) → readSheet sheet .code ≡ 0 → (d : Desk) → TypedDesk d → (turnout : ℕ) → unitWork sheet (deskBytes d) turnout ≡ workAnswered (readSheet sheet .station) d turnout
+unfolding unitWork started
+work-asked sheet good d fits turnout =
+    rw (eq-eqb (readSheet sheet .code) 0 good, encoded-is-desk d fits, decoded-encoded d fits)
 
 -- the records of a journal of bytes are of bytes
 take-bytes : (n : ℕ) (s : List ℕ) → Bytes s → Bytes (take n s)
@@ -130,31 +124,30 @@ record-bytes : (s : List ℕ) → Bytes s → (n : ℕ) → Bytes (recordIn s n)
 record-bytes s byte n =
     take-bytes 32 (drop (recordPlace n) s) (λ i. rw (getD-drop (recordPlace n) s i 0) (byte (recordPlace n + i)))
 
-records-bytes : (s : List ℕ) → Bytes s → EachBytes (records s)
-unfolding records recordsFrom
-records-bytes s byte = from 0 (counted s)
+inputs-records : (journal : List ℕ) → Bytes journal → Each IsRecord (inputsOf journal)
+unfolding inputsOf records recordsFrom
+inputs-records journal byte = from 0 (counted journal)
   where
-    from : (n k : ℕ) → EachBytes (recordsFrom s n k)
-    from n zero i = λ j. lit< tt
-    from n (suc k) zero = record-bytes s byte n
-    from n (suc k) (suc i) = from (n + 1) k i
+    from : (n k : ℕ) → Each IsRecord (map bytes (recordsFrom journal n k))
+    from n zero = tt
+    from n (suc k) = (record-bytes journal byte n, from (n + 1) k)
 
 pub one-by-one : (sheet journal : List ℕ) → Bytes journal → readSheet sheet .code ≡ 0 → journalNumber journal ≡ 0 → OneByOne sheet journal
-unfolding replayed ran inputsOf movementReplayed workReplayed started unitMovement unitWork
+unfolding replayed ran movementReplayed workReplayed follows
 one-by-one sheet journal byte good whole =
-    let rs = records journal in
-    let each = records-bytes journal byte in
+    let st = readSheet sheet .station in
+    let each = inputs-records journal byte in
+    let F = follows sheet good in
     let accepted = eq-eqb (readSheet sheet .code) 0 good in
     let journal-good = eq-eqb (journalNumber journal) 0 whole in
-    let same = answers-same sheet good freshDesk fresh-typed rs each in
-    let last = desk-same sheet good freshDesk fresh-typed rs each in
-    let fits = run-typed (readSheet sheet .station) freshDesk fresh-typed rs each in
-    let told = encoded-is-desk (after ours (readSheet sheet .station) freshDesk (map bytes rs)) fits in
-    let back = decoded-encoded (after ours (readSheet sheet .station) freshDesk (map bytes rs)) fits in
+    let same = answers-same F freshDesk fresh-typed (inputsOf journal) each in
+    let last = after-same F freshDesk fresh-typed (inputsOf journal) each in
+    let d = after ours st freshDesk (inputsOf journal) in
+    let fits = good-after F freshDesk fresh-typed (inputsOf journal) each in
     record {
-      answers = λ buffer room. rw (accepted, journal-good, room, same);
-      movement = λ zone train. rw (accepted, journal-good, last, told, back);
-      work = λ turnout. rw (accepted, journal-good, last, told, back);
+      replay = λ buffer room. rw (accepted, journal-good, room, same);
+      movement = λ zone train. rw (accepted, journal-good, last) (movement-asked sheet good d fits zone train);
+      work = λ turnout. rw (accepted, journal-good, last) (work-asked sheet good d fits turnout);
     }
 
 -- minutes that are not 0 before a call change neither its code nor the bytes, and stay where the record is refused

@@ -1,45 +1,53 @@
--- Records heard one by one by a unit: each by the bytes that the one before left, the minutes 0 before each call; and the law that they get
--- what replaying them as a journal gives.
+-- A unit that hears records one by one, as a desk of the lists of hearings, so that demand 3 can be said of it; and the law that it gives
+-- what replaying a journal gives.
 use mathlib.Core.Bool.{false}
-use mathlib.Core.List.{List, [], _∷_}
+use mathlib.Core.List.{List}
 use mathlib.Core.Path.{_≡_}
 use Prim.Native.Nat.{ℕ}
 use lib.Dec.{ltb}
 use lib.ListN.{length}
+use Rattle.message.specs.Record.{encoded}
+use Rattle.sheet.specs.Sheet.{readSheet}
 use Rattle.desk.specs.Desk.{freshDesk}
 use Rattle.desk_bytes.specs.Encoding.{deskBytes}
-use Rattle.journal.specs.Journal.{counted, records}
+use Rattle.journal.specs.Journal.{counted}
 use Rattle.report.specs.Answers.{answerPlace}
-use Rattle.history.specs.Lists.{Reply}
-use Rattle.history.specs.Replay.{storedFrom, replayed, movementReplayed, workReplayed}
+use Rattle.history.specs.Lists.{Input, message, bytes, Heard, Model, after, answers}
+use Rattle.history.specs.Replay.{inputsOf, storedFrom, replayed, movementReplayed, workReplayed}
 use Rattle.unit.specs.Unit.{UnitAnswer, unitApplied, unitMovement, unitWork}
 
--- the code and the minutes of an answer
-abbrev pub replyOf : UnitAnswer → Reply
-replyOf a = record { code = a .code; minutes = a .minutes }
+-- what a call leaves: the answer, and the desk's bytes
+abbrev pub leaves : UnitAnswer → Heard (List ℕ)
+leaves a = record { reply = record { code = a .code; minutes = a .minutes }; state = a .bytes }
 
--- the answers to a list of records
-unfoldable pub unitAnswers : List ℕ → List ℕ → List (List ℕ) → List Reply
-unitAnswers sheet desk [] = []
-unitAnswers sheet desk (r ∷ rs) =
-    replyOf (unitApplied sheet desk r 0) ∷ unitAnswers sheet (unitApplied sheet desk r 0 .bytes) rs
+-- what reaches a unit: bytes, or the record of a message
+abbrev pub recordOf : Input → List ℕ
+recordOf (message m) = encoded m
+recordOf (bytes s) = s
 
--- the desk's bytes after a list of records
-unfoldable pub unitAfter : List ℕ → List ℕ → List (List ℕ) → List ℕ
-unitAfter sheet desk [] = desk
-unitAfter sheet desk (r ∷ rs) = unitAfter sheet (unitApplied sheet desk r 0 .bytes) rs
+-- the unit of a sheet: it starts from the fresh desk's bytes, each record is heard by the bytes that the one before left, and the minutes
+-- are 0 before each call
+abbrev pub unitOf : List ℕ → Model
+unitOf sheet = record {
+  State = List ℕ;
+  fresh = deskBytes freshDesk;
+  hear = λ st s i. leaves (unitApplied sheet s (recordOf i) 0);
+  movement = λ st s zone train. unitMovement sheet s zone train;
+  work = λ st s turnout. unitWork sheet s turnout;
+}
 
--- The law of the unit, of a sheet and a journal that are accepted: the records of the journal, heard one by one from the fresh desk, get
--- the answers that replaying stores, and afterwards the unit answers both questions as they are answered after replaying.
+-- The law of the unit, of a sheet and a journal that are accepted: the records of the journal, heard one by one, get the answers that
+-- replaying stores, and afterwards the unit answers both questions as they are answered after replaying.
 pub record OneByOne (sheet journal : List ℕ) : Type 0 where
-  pub answers :
+  pub replay :
       (buffer : List ℕ) → ltb (length buffer) (answerPlace (counted journal)) ≡ false
-      → replayed sheet journal buffer
-      ≡ record { code = 0; bytes = storedFrom buffer 0 (unitAnswers sheet (deskBytes freshDesk) (records journal)) }
+      → let heard = answers (unitOf sheet) (readSheet sheet .station) (unitOf sheet .fresh) (inputsOf journal) in
+      replayed sheet journal buffer ≡ record { code = 0; bytes = storedFrom buffer 0 heard }
   pub movement :
       (zone train : ℕ)
-      → unitMovement sheet (unitAfter sheet (deskBytes freshDesk) (records journal)) zone train
-      ≡ movementReplayed sheet journal zone train
+      → let last = after (unitOf sheet) (readSheet sheet .station) (unitOf sheet .fresh) (inputsOf journal) in
+      unitMovement sheet last zone train ≡ movementReplayed sheet journal zone train
   pub work :
       (turnout : ℕ)
-      → unitWork sheet (unitAfter sheet (deskBytes freshDesk) (records journal)) turnout ≡ workReplayed sheet journal turnout
+      → let last = after (unitOf sheet) (readSheet sheet .station) (unitOf sheet .fresh) (inputsOf journal) in
+      unitWork sheet last turnout ≡ workReplayed sheet journal turnout

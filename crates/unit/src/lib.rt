@@ -1,7 +1,7 @@
 // The unit: a desk kept in 520 bytes by the caller, for firmware in C or Rust that hears one record at a time. A byte slice goes as a
 // pointer and a length. The rules are in specs/Unit.antt, the desk's bytes in the crate `desk_bytes`. Every function takes any bytes and
 // any numbers. proofs/OneByOne.antt has that records heard one by one, the minutes 0
-// before each call, get what replaying them gives.
+// before each call, get what replaying them gives, proofs/Demand3.antt that demand 3 holds of them.
 ghost use mathlib.Core.Path.{_≡_};
 ghost use Rattle.packed.specs.Packed.{movementPacked, workPacked};
 ghost use Rattle.unit.specs.Unit.{unitFresh, started, unitApplied, unitMovement, unitWork};

@@ -1,0 +1,42 @@
+-- Demand 3 of the unit: what holds after every list of records that a unit has heard one by one, on every sheet that is accepted. It is
+-- demand 3 of the desk, which the unit follows.
+-- Assumes nothing.
+use mathlib.Core.List.{List}
+use mathlib.Core.Path.{_≡_, sym, ap, _∙_}
+use Prim.Native.Nat.{ℕ}
+use Rattle.sheet.specs.Sheet.{readSheet}
+use Rattle.desk.specs.Desk.{freshDesk}
+use Rattle.desk_bytes.specs.Encoding.{deskBytes}
+use Rattle.history.specs.Lists.{Input, after, answers, kept}
+use Rattle.history.specs.Demand3.{ours, Holds}
+use Rattle.history.proofs.Theorem.{demand3}
+use Rattle.unit.specs.OneByOne.{unitOf}
+use Rattle.unit.proofs.Typed.{fresh-typed}
+use Rattle.unit.proofs.Follows.{Each, good-after, after-same, answers-same, accepted-same, kept-same, kept-answers-same, kept-pass}
+use Rattle.unit.proofs.OneByOne.{IsRecord, follows, movement-asked, work-asked}
+
+pub unit-demand3 : (sheet : List ℕ) → readSheet sheet .code ≡ 0 → (inputs : List Input) → Each IsRecord inputs → Holds (unitOf sheet) (readSheet sheet .station) inputs
+unfolding follows
+unit-demand3 sheet good inputs pass =
+    let st = readSheet sheet .station in
+    let U = unitOf sheet in
+    let F = follows sheet good in
+    let held = demand3 sheet good inputs in
+    let d = after ours st freshDesk inputs in
+    let fits = good-after F freshDesk fresh-typed inputs pass in
+    let last : after U st (U .fresh) inputs ≡ deskBytes d = after-same F freshDesk fresh-typed inputs pass in
+    let messages = accepted-same F freshDesk fresh-typed inputs pass in
+    let left = kept ours st freshDesk inputs in
+    let left-same : kept U st (U .fresh) inputs ≡ left = kept-same F freshDesk fresh-typed inputs pass in
+    let left-pass = kept-pass ours st IsRecord freshDesk inputs pass in
+    record {
+      apart = rw messages (held .apart);
+      work = λ t. rw (messages, last, work-asked sheet good d fits t) (held .work t);
+      clear = λ z f rest stands. rw (messages, last, movement-asked sheet good d fits z (f .id)) (held .clear z f rest (rw messages at stands));
+      same-desk =
+          ap (after U st (U .fresh)) left-same ∙ after-same F freshDesk fresh-typed left left-pass ∙ ap deskBytes (held .same-desk)
+          ∙ sym last;
+      same-answers =
+          ap (answers U st (U .fresh)) left-same ∙ answers-same F freshDesk fresh-typed left left-pass ∙ held .same-answers
+          ∙ sym (kept-answers-same F freshDesk fresh-typed inputs pass);
+    }

@@ -226,7 +226,8 @@ uint8_t unit_fresh(uint8_t *desk, size_t desk_len);
 
 /*
  * Hears a record (32 bytes). If accepted, the desk (520 bytes) is written as it then stands, and the minutes: those from the agreement
- * to an accepted kind 11, else 0. If refused, desk and minutes stay as they were. Codes: 0, the sheet's, 61, 10 to 22.
+ * to an accepted kind 11, else 0. If refused, desk and minutes stay as they were. Codes: 0, the sheet's, 61, 10 to 22. `minutes` points to
+ * one number of the machine's own kind, is not NULL, and lies in none of the buffers.
  * Records heard one by one from a fresh desk, the minutes set to 0 before each, get the codes and minutes that desk_replay gives for their
  * journal.
  */

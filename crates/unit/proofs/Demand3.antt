@@ -1,5 +1,5 @@
--- Demand 3 of the unit: what holds after every list of records that a unit has heard one by one, on every sheet that is accepted. It is
--- demand 3 of the desk, which the unit follows.
+-- Demand 3 of the unit: what holds after every list of records that a unit has heard one by one, the minutes 0 before each call, on every
+-- sheet that is accepted. It is demand 3 of the desk, which the unit follows.
 -- Assumes nothing.
 use mathlib.Core.List.{List}
 use mathlib.Core.Path.{_≡_, sym, ap, _∙_}

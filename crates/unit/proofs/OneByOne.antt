@@ -22,7 +22,7 @@ use Rattle.desk.specs.declared.Desk.{Desk}
 use Rattle.desk.specs.Desk.{zoneAt, freshDesk, applied, appliedRecord}
 use Rattle.desk.specs.Questions.{movementAnswered, workAnswered}
 use Rattle.journal.specs.Journal.{journalNumber, counted, recordPlace, recordIn, recordsFrom, records}
-use Rattle.history.specs.Lists.{Input, message, bytes, after}
+use Rattle.history.specs.Lists.{Input, message, bytes, after, answers}
 use Rattle.history.specs.Demand3.{hears, ours}
 use Rattle.history.specs.Replay.{inputsOf, ran, replayed, movementReplayed, workReplayed}
 use Rattle.history.proofs.Hearing.{hear-refused}
@@ -102,6 +102,16 @@ follows sheet good = record { shown = deskBytes; Good = TypedDesk; step = step; 
     stays d fits (message m) record-it = absurd record-it
     stays d fits (bytes s) byte = applied-typed st d s fits byte
 
+-- Over every list of records, of any length: the answers are the desk's, and the bytes those of the desk.
+pub lists-same : (sheet : List ℕ) → readSheet sheet .code ≡ 0 → (inputs : List Input) → Each IsRecord inputs
+    → let st = readSheet sheet .station in
+    (answers (unitOf sheet) st (unitOf sheet .fresh) inputs ≡ answers ours st (ours .fresh) inputs)
+    × (after (unitOf sheet) st (unitOf sheet .fresh) inputs ≡ deskBytes (after ours st (ours .fresh) inputs))
+unfolding follows
+lists-same sheet good inputs pass =
+    let F = follows sheet good in
+    (answers-same F freshDesk fresh-typed inputs pass, after-same F freshDesk fresh-typed inputs pass)
+
 -- the questions put to the bytes of a desk are those put to the desk
 pub movement-asked : (sheet : List ℕ) → readSheet sheet .code ≡ 0 → (d : Desk) → TypedDesk d → (zone train : ℕ) → unitMovement sheet (deskBytes d) zone train ≡ movementAnswered (readSheet sheet .station) d zone train
 unfolding unitMovement started
@@ -140,12 +150,14 @@ one-by-one sheet journal byte good whole =
     let F = follows sheet good in
     let accepted = eq-eqb (readSheet sheet .code) 0 good in
     let journal-good = eq-eqb (journalNumber journal) 0 whole in
-    let same = answers-same F freshDesk fresh-typed (inputsOf journal) each in
-    let last = after-same F freshDesk fresh-typed (inputsOf journal) each in
+    let both = lists-same sheet good (inputsOf journal) each in
+    let same = both .0 in
+    let last = both .1 in
     let d = after ours st freshDesk (inputsOf journal) in
     let fits = good-after F freshDesk fresh-typed (inputsOf journal) each in
     record {
       replay = λ buffer room. rw (accepted, journal-good, room, same);
+      desk = last;
       movement = λ zone train. rw (accepted, journal-good, last) (movement-asked sheet good d fits zone train);
       work = λ turnout. rw (accepted, journal-good, last) (work-asked sheet good d fits turnout);
     }

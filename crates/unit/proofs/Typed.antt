@@ -1,4 +1,4 @@
--- Hearing keeps the bounds: from the fresh desk on, records of bytes leave a desk whose numbers are of their machine types.
+-- Hearing keeps the bounds: from the fresh desk on, records of bytes leave a desk whose numbers of several bytes are of their machine types.
 -- Assumes nothing.
 use mathlib.Core.Path.{_≡_, refl, _∙_}
 use mathlib.Core.Bool.{Bool, true, false, cond}

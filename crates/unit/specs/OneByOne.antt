@@ -13,6 +13,7 @@ use Rattle.desk_bytes.specs.Encoding.{deskBytes}
 use Rattle.journal.specs.Journal.{counted}
 use Rattle.report.specs.Answers.{answerPlace}
 use Rattle.history.specs.Lists.{Input, message, bytes, Heard, Model, after, answers}
+use Rattle.history.specs.Demand3.{ours}
 use Rattle.history.specs.Replay.{inputsOf, storedFrom, replayed, movementReplayed, workReplayed}
 use Rattle.unit.specs.Unit.{UnitAnswer, unitApplied, unitMovement, unitWork}
 
@@ -20,7 +21,7 @@ use Rattle.unit.specs.Unit.{UnitAnswer, unitApplied, unitMovement, unitW
 abbrev pub leaves : UnitAnswer → Heard (List ℕ)
 leaves a = record { reply = record { code = a .code; minutes = a .minutes }; state = a .bytes }
 
--- what reaches a unit: bytes, or the record of a message
+-- what reaches a unit: bytes; a message would as its record (the theorems speak of bytes)
 abbrev pub recordOf : Input → List ℕ
 recordOf (message m) = encoded m
 recordOf (bytes s) = s
@@ -36,13 +37,17 @@ unitOf sheet = record {
   work = λ st s turnout. unitWork sheet s turnout;
 }
 
--- The law of the unit, of a sheet and a journal that are accepted: the records of the journal, heard one by one, get the answers that
--- replaying stores, and afterwards the unit answers both questions as they are answered after replaying.
+-- The law of the unit, which `one-by-one` gives of a sheet and a journal that are accepted: the records of the journal, heard one by one,
+-- get the answers that replaying stores; the bytes are then those of the desk after the journal; and the unit answers both questions
+-- as they are answered after replaying.
 pub record OneByOne (sheet journal : List ℕ) : Type 0 where
   pub replay :
       (buffer : List ℕ) → ltb (length buffer) (answerPlace (counted journal)) ≡ false
       → let heard = answers (unitOf sheet) (readSheet sheet .station) (unitOf sheet .fresh) (inputsOf journal) in
       replayed sheet journal buffer ≡ record { code = 0; bytes = storedFrom buffer 0 heard }
+  pub desk :
+      after (unitOf sheet) (readSheet sheet .station) (unitOf sheet .fresh) (inputsOf journal)
+      ≡ deskBytes (after ours (readSheet sheet .station) (ours .fresh) (inputsOf journal))
   pub movement :
       (zone train : ℕ)
       → let last = after (unitOf sheet) (readSheet sheet .station) (unitOf sheet .fresh) (inputsOf journal) in

@@ -8,12 +8,14 @@ use zone::Work;
 use zone::Zone;
 use zone::clearances::clearance_fits;
 use zone::movements::cleared_set;
-use zone::movements::named_turnouts;
+use zone::movements::is_standing;
 use zone::movements::order_refused;
 use zone::movements::regime;
 use zone::movements::route_for;
-use zone::movements::under_train;
 use zone::movements::worked_turnouts;
+use zone::trains::cleared_standing;
+use zone::trains::movement_under;
+use zone::trains::named_standing;
 use zone::works::manner_of;
 use zone::works::under_form;
 
@@ -29,8 +31,7 @@ pub fn no_work_under(z: Zone, m: Message) -> bool
 pub fn no_movement_under(z: Zone, m: Message) -> bool
     ensures { λ r. ⌜ r ≡ noMovementUnder z m ⌝ }
 {
-    let v = z.movement;
-    !under_train(v, m.id)
+    !is_standing(movement_under(z, m.id))
 }
 
 // 17 of a request: empty, outside the zone or splitting a crossover.
@@ -68,17 +69,17 @@ pub fn bad_part(st: Station, set: u64, a: u64) -> bool
 }
 
 // 19: whether a standing movement names a turnout of the set.
-pub fn names_of(st: Station, v: Movement, s: u64) -> bool
-    ensures { λ r. ⌜ r ≡ inTheWay st v s ⌝ }
+pub fn names_of(st: Station, z: Zone, s: u64) -> bool
+    ensures { λ r. ⌜ r ≡ inTheWay st z s ⌝ }
 {
-    sets::overlap(named_turnouts(st, v), s)
+    sets::overlap(named_standing(st, z), s)
 }
 
 // 19 of detection off: a cleared turnout in a or b.
-pub fn cleared_among(v: Movement, s: u64) -> bool
-    ensures { λ r. ⌜ r ≡ clearedAmong v s ⌝ }
+pub fn cleared_among(z: Zone, s: u64) -> bool
+    ensures { λ r. ⌜ r ≡ clearedAmong z s ⌝ }
 {
-    sets::overlap(cleared_set(v), s)
+    sets::overlap(cleared_standing(z), s)
 }
 
 // 22 of detection off: a portable device under a verbal request.

@@ -8,7 +8,8 @@ use Rattle.station.specs.Station.{turnoutCount, zoneCount, zoneOf}
 use Rattle.zone.specs.declared.Zone.{Zone}
 use Rattle.zone.specs.declared.Regime.the-variants.{Held}
 use Rattle.zone.specs.Work.{openSet}
-use Rattle.zone.specs.Movement.{underTrain, lacking, regimeOf}
+use Rattle.zone.specs.Movement.{isStanding, lacking, regimeOf}
+use Rattle.zone.specs.Trains.{movementUnder}
 use Rattle.desk.specs.declared.Desk.{Desk}
 use Rattle.desk.specs.declared.MovementAnswer.{MovementAnswer}
 use Rattle.desk.specs.declared.WorkAnswer.{WorkAnswer}
@@ -25,12 +26,12 @@ lowestOf s = cond (isEmpty s) 255 (lowest s)
 -- "Movement (zone, train): the regime, the lowest-numbered turnout still lacking one, and how many lack one (255 and 0 if none)."
 abbrev pub movementIn : Station → Zone → ℕ → MovementAnswer
 movementIn st z train =
-    cond (not (underTrain (z .movement) train)) (movementRefused 15)
+    cond (not (isStanding (movementUnder z train))) (movementRefused 15)
     (record {
       code = 0;
-      regime = regimeOf st (z .work) (z .movement);
-      lowest = lowestOf (lacking st (z .work) (z .movement));
-      count = count (lacking st (z .work) (z .movement));
+      regime = regimeOf st (z .work) (movementUnder z train);
+      lowest = lowestOf (lacking st (z .work) (movementUnder z train));
+      count = count (lacking st (z .work) (movementUnder z train));
     })
 
 unfoldable pub movementAnswered : Station → Desk → ℕ → ℕ → MovementAnswer

@@ -132,8 +132,8 @@ fn movement_in(st: Station, z: Zone, train: u32) -> MovementAnswer
     ensures { λ r. ⌜ r ≡ movementIn st z train ⌝ }
 {
     let w = z.work;
-    let v = z.movement;
-    if !zone::movements::under_train(v, train) {
+    let v = zone::trains::movement_under(z, train);
+    if !zone::movements::is_standing(v) {
         return movement_refused(NO_SUCH_MOVEMENT);
     }
     let lacking = zone::movements::lacking_clearance(st, w, v);

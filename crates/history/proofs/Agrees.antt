@@ -48,12 +48,16 @@ abbrev pub MovementAgrees : Station → List Message → Movement → Type 0
 MovementAgrees st H NoMovement = standing H ≡ never
 MovementAgrees st H (Standing p) = Stands st H p
 
--- zone n, with the work w and the movement v, after the accepted messages H
-pub record Agrees (st : Station) (n : ℕ) (H : List Message) (w : Work) (v : Movement) : Type 0 where
+-- the work w of zone n, and what is open of it, after the accepted messages H
+pub record Works (st : Station) (n : ℕ) (H : List Message) (w : Work) : Type 0 where
   pub work : WorkAgrees H w
   pub opened : (t : ℕ) → openToWork t H ≡ has (openSet w) t
-  pub movement : MovementAgrees st H v
   pub here : (t : ℕ) → has (workSet w) t ≡ true → InZone st n t
+
+-- zone n, with the work w and the movement v, after the accepted messages H
+pub record Agrees (st : Station) (n : ℕ) (H : List Message) (w : Work) (v : Movement) : Type 0 where
+  pub works : Works st n H w
+  pub movement : MovementAgrees st H v
   pub apart : (t : ℕ) → has (openSet w) t ≡ true → has (clearedSet v) t ≡ true → ⊥
   pub cleared-here : (t : ℕ) → has (clearedSet v) t ≡ true → InZone st n t
 
@@ -124,10 +128,8 @@ no-member t e = true≢false (sym e ∙ has-zero t)
 pub agrees-fresh : (st : Station) (n : ℕ) → Agrees st n [] NoWork NoMovement
 unfolding underAgreedWork openToWork standing afterLast
 agrees-fresh st n = record {
-  work = λ t. refl;
-  opened = λ t. sym (has-zero t);
+  works = record { work = λ t. refl; opened = λ t. sym (has-zero t); here = λ t e. absurd (no-member t e) };
   movement = refl;
-  here = λ t e. absurd (no-member t e);
   apart = λ t e c. no-member t e;
   cleared-here = λ t e. absurd (no-member t e);
 }

@@ -5,7 +5,7 @@ use mathlib.Core.List.{List}
 use mathlib.Core.Path.{_≡_, refl, sym, ap, _∙_}
 use Prim.Native.Nat.{ℕ, _<_}
 use native.Mathlib.Omega.{arith}
-use borrow.Author.Tests.{eqb-true, eqb-false, eq-eqb, ltb-true}
+use borrow.Author.Tests.{not-false, eqb-true, eqb-false, eq-eqb, ltb-true}
 use lib.Dec.{eqb, ltb}
 use lib.ListN.{set}
 use lib.Seq.{set-getD}
@@ -17,7 +17,10 @@ use Rattle.station.specs.declared.Station.{Station}
 use Rattle.station.specs.Station.{zoneCount}
 use Rattle.zone.specs.declared.Zone.{Zone}
 use Rattle.zone.specs.declared.Answer.{Answer}
-use Rattle.zone.specs.Kinds.{first, row, rows, noKind, row1, row2, row3, row4, row6, row10, answered, heard, zoneAfter, workAfter, movementAfter, keepsWork, keepsMovement, minutesFor}
+use Rattle.zone.specs.Kinds.{first, row, rows, noKind, row1, row2, row3, row4, row5, row6, row7, row8, row9, row10, answered, heard, zoneAfter, workAfter, moved}
+use Rattle.zone.specs.Movement.{isStanding, underTrain}
+use Rattle.zone.specs.Trains.{movementUnder, noPlace, namedStanding, clearedStanding, placed, changed}
+use Rattle.zone.proofs.EachTrain.{found-under, found}
 use Rattle.desk.specs.declared.Desk.{Desk}
 use Rattle.desk.specs.Desk.{zoneAt, noZone, refusedBy, putBack, applied, appliedRecord}
 use Rattle.history.specs.Lists.{Input, message, bytes, messageOf}
@@ -32,22 +35,30 @@ use lib.ListN.{List·getD-eq-default}
 pub step : (st : Station) (n : ℕ) (H : List Message) (m : Message) (z : Zone) → fieldNumber m ≡ 0 → m .zone ≡ n → first (row (m .kind) st z m) ≡ 0
     → Agrees st n H (z .work) (z .movement)
     → Agrees st n (H then m) (zoneAfter (m .kind) z m .work) (zoneAfter (m .kind) z m .movement)
-unfolding zoneAfter row workAfter movementAfter
+unfolding zoneAfter row workAfter moved noPlace namedStanding clearedStanding placed changed
 step st n H m z rules zone checks a = by-kind (m .kind) refl checks
   where
-    by-kind : (k : ℕ) → m .kind ≡ k → first (row k st z m) ≡ 0 → Agrees st n (H then m) (workAfter k (z .work) m) (movementAfter k (z .movement) m)
+    -- kinds 6 to 9: the movement is the message's train's
+    its : not (isStanding (movementUnder z (m .id))) ≡ false → underTrain (z .movement) (m .id) ≡ true
+    its c = found-under z (m .id) (not-false (isStanding (movementUnder z (m .id))) c)
+
+    by-kind : (k : ℕ) → m .kind ≡ k → first (row k st z m) ≡ 0 → Agrees st n (H then m) (workAfter k (z .work) m) (moved k z m .movement)
     by-kind =
-        each-kind (λ k. m .kind ≡ k → first (row k st z m) ≡ 0 → Agrees st n (H then m) (workAfter k (z .work) m) (movementAfter k (z .movement) m))
+        each-kind (λ k. m .kind ≡ k → first (row k st z m) ≡ 0 → Agrees st n (H then m) (workAfter k (z .work) m) (moved k z m .movement))
         (λ e none. absurd (omega arith))
         (λ e none. let c = passed (row1 st z m) refl none in step1 st n H m (z .work) (z .movement) e zone (c .0) (c .1 .0) a)
         (λ e none. let c = passed (row2 st z m) refl none in step2 st n H m (z .work) (z .movement) e (c .0) (c .1 .0) a)
         (λ e none. let c = passed (row3 st z m) refl none in step3 st n H m (z .work) (z .movement) e (c .1 .0) a)
         (λ e none. let c = passed (row4 st z m) refl none in step4 st n H m (z .work) (z .movement) e (c .1 .0) (c .1 .1 .0) (c .1 .1 .1 .0) a)
-        (λ e none. step5 st n H m (z .work) (z .movement) e a)
-        (λ e none. let c = passed (row6 st z m) refl none in step6 st n H m (z .work) (z .movement) e (clearance-turnout m e rules) (c .0) (c .1 .1 .0) (c .1 .1 .1 .0) a)
-        (λ e none. step7 st n H m (z .work) (z .movement) e a)
-        (λ e none. step8 st n H m (z .work) (z .movement) e a)
-        (λ e none. step9 st n H m (z .work) (z .movement) e a)
+        (λ e none. let c = passed (row5 st z m) refl none in rw (c .0) (step5 st n H m (z .work) (z .movement) e a))
+        (λ e none.
+            let c = passed (row6 st z m) refl none in
+            let same = found z (m .id) (its (c .0)) in
+            rw (same, its (c .0))
+            (step6 st n H m (z .work) (z .movement) e (clearance-turnout m e rules) (its (c .0)) (rw same at (c .1 .1 .0)) (rw same at (c .1 .1 .1 .0)) a))
+        (λ e none. let c = passed (row7 st z m) refl none in rw (found z (m .id) (its (c .0)), its (c .0)) (step7 st n H m (z .work) (z .movement) e a))
+        (λ e none. let c = passed (row8 st z m) refl none in rw (its (c .0)) (step8 st n H m (z .work) (z .movement) e a))
+        (λ e none. let c = passed (row9 st z m) refl none in rw (its (c .0)) (step9 st n H m (z .work) (z .movement) e a))
         (λ e none. let c = passed (row10 st z m) refl none in step10 st n H m (z .work) (z .movement) e (c .1 .1 .0) a)
         (λ e none. step11 st n H m (z .work) (z .movement) e a)
         (λ e none. step12 st n H m (z .work) (z .movement) e a)

@@ -2,6 +2,8 @@ pub mod Append
 pub mod More
 pub mod Checks
 pub mod Agrees
+pub mod Moves
+pub mod Works
 pub mod Steps
 pub mod Hearing
 pub mod Runs

@@ -18,7 +18,8 @@ use Rattle.signals.specs.Answer as Verdicts
 use Rattle.zone.specs.Work.{minutesBetween}
 use Rattle.zone.specs.Movement.{regimeOf}
 use Rattle.zone.specs.Clearance.{clearanceFits}
-use Rattle.zone.specs.Kinds.{row, workAfter, movementAfter, recorderAfter, minutesFor, zoneAfter, answered, heard}
+use Rattle.zone.specs.Trains.{movementUnder, noPlace, namedStanding, clearedStanding, placed, changed}
+use Rattle.zone.specs.Kinds.{row, workAfter, moved, recorderAfter, minutesFor, zoneAfter, answered, heard}
 use Rattle.desk.specs.Desk.{freshDesk, applied, appliedRecord}
 use Rattle.desk.specs.Questions.{workAnswered}
 use Rattle.journal.specs.Journal.{isJournal, journalNumber, counted, recordsFrom, records}
@@ -202,7 +203,7 @@ pub record Cases : Type 0 where
   pub other-position : any (clearsWell stationK (naming 5 110 512 0 0 0) 0) (reversed ∷ []) ≡ false
 
 pub station-k : Cases
-unfolding readSheet headerNumber stationIn places valuesFrom judged badTurnout badRoute goodTurnout goodRoute firstFrom allFrom tied tiedWith has single after answers accepted ofZone applied appliedRecord readRecord decoded headBytes encoded named fieldsKept fieldNumber heard answered row workAfter movementAfter recorderAfter minutesFor minutesBetween zoneAfter zoneTurnouts setOf splits theRoute regimeOf clearanceFits freshDesk workAnswered isJournal journalNumber counted recordsFrom records inputsOf replayed ran storedFrom withAnswer textOf linesFrom lineOf decimal digits underAgreedWork openToWork standing cleared afterLast afterFirst any anyThenNone Verdicts.judged
+unfolding readSheet headerNumber stationIn places valuesFrom judged badTurnout badRoute goodTurnout goodRoute firstFrom allFrom tied tiedWith has single after answers accepted ofZone applied appliedRecord readRecord decoded headBytes encoded named fieldsKept fieldNumber heard answered row workAfter moved movementUnder noPlace namedStanding clearedStanding placed changed recorderAfter minutesFor minutesBetween zoneAfter zoneTurnouts setOf splits theRoute regimeOf clearanceFits freshDesk workAnswered isJournal journalNumber counted recordsFrom records inputsOf replayed ran storedFrom withAnswer textOf linesFrom lineOf decimal digits underAgreedWork openToWork standing cleared afterLast afterFirst any anyThenNone Verdicts.judged
 station-k = record {
   sheet = refl;
   output = refl;

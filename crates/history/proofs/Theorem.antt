@@ -25,7 +25,8 @@ use Rattle.zone.specs.declared.Passage.{Passage}
 use Rattle.zone.specs.declared.Regime.{Regime}
 use Rattle.zone.specs.declared.Regime.the-variants.{Held, Clear, Danger}
 use Rattle.zone.specs.Work.{workSet, agreedSet, openSet}
-use Rattle.zone.specs.Movement.{clearedSet, efficientSet, workedTurnouts, lacking, regimeOf, isClear, underTrain}
+use Rattle.zone.specs.Movement.{clearedSet, efficientSet, workedTurnouts, lacking, regimeOf, isClear, isStanding, trainOf, underTrain}
+use Rattle.zone.proofs.EachTrain.{found}
 use Rattle.desk.specs.declared.Desk.{Desk}
 use Rattle.desk.specs.Desk.{freshDesk, zoneAt}
 use Rattle.desk.specs.Questions.{movementIn, movementAnswered, workAnswered}
@@ -33,8 +34,8 @@ use Rattle.history.specs.Since.{Since, never, since, afterLast, any}
 use Rattle.history.specs.History.{clears, clearsWell, underAgreedWork, openToWork, opened, agreement, standing, cleared, clearedAfter, ofItsRoute}
 use Rattle.history.specs.Lists.{Input, after, accepted, ofZone}
 use Rattle.history.specs.Demand3.{ours, Holds, Demand3}
-use Rattle.history.proofs.Agrees.{InZone, Stands, MovementAgrees, Agrees, under-is, no-member}
-use Rattle.history.proofs.Steps.{agreed-in}
+use Rattle.history.proofs.Agrees.{InZone, WorkAgrees, Stands, MovementAgrees, Agrees, under-is}
+use Rattle.history.proofs.Works.{agreed-in}
 use Rattle.history.proofs.Runs.{AllAgree, run-agrees, fresh-agrees, same-desk, same-answers}
 
 -- what is cleared, by the state and by the history
@@ -48,7 +49,7 @@ open-here : {st : Station} {n : ℕ} {H : List Message} {w : Work} {v : Movement
 unfolding openToWork
 open-here {H = H} {w = w} a t o =
     let under = and-eq-true-iff (underAgreedWork t H) (opened t (agreement H)) .0 o .0 in
-    a .here t (agreed-in w t (sym (under-is H w (a .work) t) ∙ under))
+    a .works .here t (agreed-in w t (sym (under-is H w (a .works .work) t) ∙ under))
 
 any-weaker : (p q : Message → Bool) → ((m : Message) → p m ≡ true → q m ≡ true) → (l : List Message) → any p l ≡ true → any q l ≡ true
 unfolding any
@@ -82,53 +83,53 @@ clear-means st w v e = go (not (isEmpty (lacking st w v))) (within (workedTurnou
 abbrev EachCleared : Station → List Message → Message → List Message → Type 0
 EachCleared st H f rest = (t : ℕ) → ofItsRoute st f t ≡ true → underAgreedWork t H ≡ true → any (clearsWell st f t) rest ≡ true
 
-module _ (st : Station) (n : ℕ) (H : List Message) (w : Work) (p : Passage) (a : Agrees st n H w (Standing p)) where
+-- a standing movement, by the messages L of its train; the work, by all messages H of the zone
+module _ (st : Station) (H L : List Message) (w : Work) (p : Passage) (work : WorkAgrees H w) (a : Stands st L p) where
   -- a worked turnout, by the state and by the history
-  worked-is : (t : ℕ) → has (workedTurnouts st w (Standing p)) t ≡ (ofItsRoute st (a .movement .asked) t && underAgreedWork t H)
+  worked-is : (t : ℕ) → has (workedTurnouts st w (Standing p)) t ≡ (ofItsRoute st (a .asked) t && underAgreedWork t H)
   worked-is t =
       has-and (namedBy (theRoute st (p .route))) (agreedSet w) t
-      ∙ rw (a .movement .route, under-is H w (a .work) t)
+      ∙ rw (a .route, under-is H w work t)
 
-  clear-then : regimeOf st w (Standing p) ≡ Clear → EachCleared st H (a .movement .asked) (a .movement .rest)
+  clear-then : regimeOf st w (Standing p) ≡ Clear → EachCleared st H (a .asked) (a .rest)
   clear-then clear t named under =
       let good = clear-means st w (Standing p) clear in
-      a .movement .efficient t ∙ within-member (workedTurnouts st w (Standing p)) (p .efficient) t good (worked-is t ∙ rw (named, under))
+      a .efficient t ∙ within-member (workedTurnouts st w (Standing p)) (p .efficient) t good (worked-is t ∙ rw (named, under))
 
-  then-clear : EachCleared st H (a .movement .asked) (a .movement .rest) → regimeOf st w (Standing p) ≡ Clear
+  then-clear : EachCleared st H (a .asked) (a .rest) → regimeOf st w (Standing p) ≡ Clear
   unfolding regimeOf
   then-clear each = rw (empty-all (lacking st w (Standing p)) none, within-all (workedTurnouts st w (Standing p)) (p .efficient) good)
     where
-      cleared-well : (t : ℕ) → has (workedTurnouts st w (Standing p)) t ≡ true → any (clearsWell st (a .movement .asked) t) (a .movement .rest) ≡ true
+      cleared-well : (t : ℕ) → has (workedTurnouts st w (Standing p)) t ≡ true → any (clearsWell st (a .asked) t) (a .rest) ≡ true
       cleared-well t h =
-          let both = and-eq-true-iff (ofItsRoute st (a .movement .asked) t) (underAgreedWork t H) .0 (sym (worked-is t) ∙ h) in
+          let both = and-eq-true-iff (ofItsRoute st (a .asked) t) (underAgreedWork t H) .0 (sym (worked-is t) ∙ h) in
           each t (both .0) (both .1)
 
       good : (t : ℕ) → has (workedTurnouts st w (Standing p)) t ≡ true → has (p .efficient) t ≡ true
-      good t h = sym (a .movement .efficient t) ∙ cleared-well t h
+      good t h = sym (a .efficient t) ∙ cleared-well t h
 
       go : (t : ℕ) (b : Bool) → has (workedTurnouts st w (Standing p)) t ≡ b → (b && not (has (p .cleared) t)) ≡ false
       go t true h =
-          let clear = any-weaker (clearsWell st (a .movement .asked) t) (clears t) (well-clears st (a .movement .asked) t) (a .movement .rest) (cleared-well t h) in
-          rw (sym (a .movement .cleared t) ∙ clear)
+          let clear = any-weaker (clearsWell st (a .asked) t) (clears t) (well-clears st (a .asked) t) (a .rest) (cleared-well t h) in
+          rw (sym (a .cleared t) ∙ clear)
       go t false h = refl
 
       none : (t : ℕ) → has (lacking st w (Standing p)) t ≡ false
       none t = has-without (workedTurnouts st w (Standing p)) (p .cleared) t ∙ rw (go t (has (workedTurnouts st w (Standing p)) t) refl)
 
--- the movement question in a zone where a movement stands
-clear-zone : (st : Station) (n : ℕ) (H : List Message) (w : Work) (v : Movement) (f : Message) (rest : List Message) → Agrees st n H w v → standing H ≡ since f rest
+-- the movement that stands by the messages of its train, and the answer to its question
+clear-train : (st : Station) (H L : List Message) (w : Work) (v : Movement) (f : Message) (rest : List Message) → WorkAgrees H w → MovementAgrees st L v → standing L ≡ since f rest
     → (underTrain v (f .id) ≡ true) × ((regimeOf st w v ≡ Clear) ↔ EachCleared st H f rest)
-clear-zone st n H w NoMovement f rest a stands =
-    let none = a .movement in
+clear-train st H L w NoMovement f rest work a stands =
     let z : _≡_ {A = ℕ} 0 1 = cc in
     absurd (omega arith)
-clear-zone st n H w (Standing p) f rest a stands =
-    let same : since (a .movement .asked) (a .movement .rest) ≡ since f rest = sym (a .movement .stands) ∙ stands in
-    let first : a .movement .asked ≡ f = cc in
-    let later : a .movement .rest ≡ rest = cc in (
-      eq-eqb (p .train) (f .id) (sym (a .movement .train) ∙ ap (λ (m : Message). m .id) first),
+clear-train st H L w (Standing p) f rest work a stands =
+    let same : since (a .asked) (a .rest) ≡ since f rest = sym (a .stands) ∙ stands in
+    let first : a .asked ≡ f = cc in
+    let later : a .rest ≡ rest = cc in (
+      eq-eqb (p .train) (f .id) (sym (a .train) ∙ ap (λ (m : Message). m .id) first),
       subst₂ (λ (g : Message) (l : List Message). (regimeOf st w (Standing p) ≡ Clear) ↔ EachCleared st H g l) first later
-          (clear-then st n H w p a, then-clear st n H w p a),
+          (clear-then st H L w p work a, then-clear st H L w p work a),
     )
 
 module _ (st : Station) (inputs : List Input) where
@@ -148,7 +149,7 @@ module _ (st : Station) (inputs : List Input) where
       let there = all .each z′ in
       let is-cleared = sym (cleared-is st (story z′) (zoneAt end z′ .movement) (there .movement) t) ∙ c in
       let same : z ≡ z′ = sym (open-here (all .each z) t o .zone) ∙ there .cleared-here t is-cleared .zone in
-      there .apart t (sym (there .opened t) ∙ rw same at o) is-cleared
+      there .apart t (sym (there .works .opened t) ∙ rw same at o) is-cleared
 
   -- what is no zone of the station has nothing open and nothing standing
   no-zone-open : (t z : ℕ) → zoneCount st ≤ z → openToWork t (story z) ≡ true → ⊥
@@ -164,7 +165,7 @@ module _ (st : Station) (inputs : List Input) where
       asked true q says =
           let z = zoneOf st t in
           let both = and-eq-true-iff (ltb z (zoneCount st)) (has (openSet (zoneAt end z .work)) t) .0 (rw q at says) in
-          (z, all .each z .opened t ∙ both .1)
+          (z, all .each z .works .opened t ∙ both .1)
       asked false q says = absurd (true≢false (sym (rw q at says)))
 
       answered : ((z : ℕ) × (openToWork t (story z) ≡ true)) → workAnswered st end t .yes ≡ true
@@ -174,7 +175,7 @@ module _ (st : Station) (inputs : List Input) where
           here = open-here (all .each (o .0)) t (o .1)
 
           go : (b : Bool) → ltb (o .0) (zoneCount st) ≡ b → workAnswered st end t .yes ≡ true
-          go true q = rw (lt-ltb t (turnoutCount st) (here .below), here .zone, q) (sym (all .each (o .0) .opened t) ∙ o .1)
+          go true q = rw (lt-ltb t (turnoutCount st) (here .below), here .zone, q) (sym (all .each (o .0) .works .opened t) ∙ o .1)
           go false q = absurd (no-zone-open t (o .0) (ltb-false (o .0) (zoneCount st) q) (o .1))
 
   -- the movement question
@@ -185,8 +186,10 @@ module _ (st : Station) (inputs : List Input) where
     where
       go : (b : Bool) → ltb z (zoneCount st) ≡ b → (movementAnswered st end z (f .id) .regime ≡ Clear) ↔ EachCleared st (story z) f rest
       go true q =
-          let c = clear-zone st z (story z) (zoneAt end z .work) (zoneAt end z .movement) f rest (all .each z) stands in
-          rw (q, c .0) (c .1)
+          let a = all .each z in
+          let c = clear-train st (story z) (story z) (zoneAt end z .work) (zoneAt end z .movement) f rest (a .works .work) (a .movement) stands in
+          let its = found (zoneAt end z) (f .id) (c .0) in
+          rw (q, its, and-eq-true-iff (isStanding (zoneAt end z .movement)) (eqb (trainOf (zoneAt end z .movement)) (f .id)) .0 (c .0) .0) (c .1)
       go false q =
           let nothing : never ≡ since f rest = rw (all .outside z (ltb-false z (zoneCount st) q)) at stands in
           let impossible : _≡_ {A = ℕ} 0 1 = cc in

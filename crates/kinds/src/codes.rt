@@ -15,7 +15,8 @@ use station::first_code;
 use zone::Zone;
 use zone::clearances::medium_fits;
 use zone::movements::is_ordered;
-use zone::movements::is_standing;
+use zone::trains::movement_under;
+use zone::trains::no_place;
 use zone::works::has_work;
 use zone::works::is_agreed;
 use zone::works::manner_of;
@@ -33,8 +34,7 @@ pub fn agreed(st: Station, z: Zone, m: Message) -> u8
     ensures { λ r. ⌜ r ≡ first (row 2 st z m) ⌝ }
 {
     let w = z.work;
-    let v = z.movement;
-    let way = first_code(checks::names_of(st, v, work_set(w)), MOVEMENT_IN_THE_WAY, 0);
+    let way = first_code(checks::names_of(st, z, work_set(w)), MOVEMENT_IN_THE_WAY, 0);
     let stage = first_code(is_agreed(w), WRONG_STAGE, way);
     first_code(checks::no_work_under(z, m), NOT_UNDER_THIS_ID, stage)
 }
@@ -51,10 +51,9 @@ pub fn detection_off(st: Station, z: Zone, m: Message) -> u8
     ensures { λ r. ⌜ r ≡ first (row 4 st z m) ⌝ }
 {
     let w = z.work;
-    let v = z.movement;
     let device = first_code(checks::device_under_verbal(w, m.b), FORBIDDEN, 0);
     let way = first_code(
-        checks::cleared_among(v, sets::join(m.a, m.b)),
+        checks::cleared_among(z, sets::join(m.a, m.b)),
         MOVEMENT_IN_THE_WAY,
         device,
     );
@@ -70,16 +69,15 @@ pub fn detection_off(st: Station, z: Zone, m: Message) -> u8
 pub fn movement_asked(st: Station, z: Zone, m: Message) -> u8
     ensures { λ r. ⌜ r ≡ first (row 5 st z m) ⌝ }
 {
-    let v = z.movement;
     let route = first_code(checks::bad_route(st, m.zone, m.d0), BAD_TURNOUTS, 0);
-    first_code(is_standing(v), ALREADY_THERE, route)
+    first_code(no_place(z), ALREADY_THERE, route)
 }
 
 pub fn clearance(st: Station, z: Zone, m: Message) -> u8
     ensures { λ r. ⌜ r ≡ first (row 6 st z m) ⌝ }
 {
     let w = z.work;
-    let v = z.movement;
+    let v = movement_under(z, m.id);
     let medium = first_code(!medium_fits(z.recorder, m.d4), WRONG_MEDIUM, 0);
     let fit = first_code(checks::misfit(st, v, m), CLEARANCE_DOES_NOT_FIT, medium);
     let turnout = first_code(checks::not_worked(st, w, v, m.d0), BAD_TURNOUTS, fit);
@@ -91,7 +89,7 @@ pub fn ordered(st: Station, z: Zone, m: Message) -> u8
     ensures { λ r. ⌜ r ≡ first (row 7 st z m) ⌝ }
 {
     let w = z.work;
-    let v = z.movement;
+    let v = movement_under(z, m.id);
     let order = first_code(checks::order_forbidden(st, w, v, m.d0), FORBIDDEN, 0);
     let stage = first_code(is_ordered(v), WRONG_STAGE, order);
     first_code(checks::no_movement_under(z, m), NOT_UNDER_THIS_ID, stage)
@@ -100,7 +98,7 @@ pub fn ordered(st: Station, z: Zone, m: Message) -> u8
 pub fn passed(st: Station, z: Zone, m: Message) -> u8
     ensures { λ r. ⌜ r ≡ first (row 8 st z m) ⌝ }
 {
-    let v = z.movement;
+    let v = movement_under(z, m.id);
     let stage = first_code(!is_ordered(v), WRONG_STAGE, 0);
     first_code(checks::no_movement_under(z, m), NOT_UNDER_THIS_ID, stage)
 }
@@ -108,7 +106,7 @@ pub fn passed(st: Station, z: Zone, m: Message) -> u8
 pub fn cancelled(st: Station, z: Zone, m: Message) -> u8
     ensures { λ r. ⌜ r ≡ first (row 9 st z m) ⌝ }
 {
-    let v = z.movement;
+    let v = movement_under(z, m.id);
     let stage = first_code(is_ordered(v), WRONG_STAGE, 0);
     first_code(checks::no_movement_under(z, m), NOT_UNDER_THIS_ID, stage)
 }
@@ -117,9 +115,8 @@ pub fn part_restored(st: Station, z: Zone, m: Message) -> u8
     ensures { λ r. ⌜ r ≡ first (row 10 st z m) ⌝ }
 {
     let w = z.work;
-    let v = z.movement;
     let form = first_code(manner_of(w) == 1, FORBIDDEN, 0);
-    let way = first_code(checks::names_of(st, v, m.a), MOVEMENT_IN_THE_WAY, form);
+    let way = first_code(checks::names_of(st, z, m.a), MOVEMENT_IN_THE_WAY, form);
     let stage = first_code(!is_agreed(w), WRONG_STAGE, way);
     let set = first_code(checks::bad_part(st, work_set(w), m.a), BAD_TURNOUTS, stage);
     first_code(checks::no_work_under(z, m), NOT_UNDER_THIS_ID, set)
@@ -129,8 +126,7 @@ pub fn all_restored(st: Station, z: Zone, m: Message) -> u8
     ensures { λ r. ⌜ r ≡ first (row 11 st z m) ⌝ }
 {
     let w = z.work;
-    let v = z.movement;
-    let way = first_code(checks::names_of(st, v, work_set(w)), MOVEMENT_IN_THE_WAY, 0);
+    let way = first_code(checks::names_of(st, z, work_set(w)), MOVEMENT_IN_THE_WAY, 0);
     let stage = first_code(!is_agreed(w), WRONG_STAGE, way);
     first_code(checks::no_work_under(z, m), NOT_UNDER_THIS_ID, stage)
 }

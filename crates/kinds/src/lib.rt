@@ -1,7 +1,7 @@
 // The twelve kinds of message over one zone (document 01's table of kinds): each is its checks, in the written order, and its
 // effect. The rules are in the crate zone, specs/Kinds.antt.
 ghost use mathlib.Core.Path.{_≡_};
-ghost use Rattle.zone.specs.Kinds.{answered, heard};
+ghost use Rattle.zone.specs.Kinds.{answered, heard, withWork, atTime};
 
 mod codes;
 
@@ -16,6 +16,9 @@ use zone::movements::cleared_at;
 use zone::movements::movement_for;
 use zone::movements::ordered_as;
 use zone::settle;
+use zone::trains::changed_under;
+use zone::trains::movement_under;
+use zone::trains::with_movement;
 use zone::works::agreed_at;
 use zone::works::agreed_from;
 use zone::works::asked_for;
@@ -45,28 +48,16 @@ pub const FORBIDDEN: u8 = 22;
 
 // The zone with other work, at a time.
 fn with_work(z: Zone, w: Work, time: u32) -> Zone
-    ensures { λ r. ⌜ r ≡ record { work = w; movement = z .movement; recorder = z .recorder; time = time } ⌝ }
+    ensures { λ r. ⌜ r ≡ withWork z w time ⌝ }
 {
-    let v = z.movement;
-    Zone {
-        work: w,
-        movement: v,
-        recorder: z.recorder,
-        time,
-    }
+    Zone { work: w, time, ..z }
 }
 
-// The zone with another movement, at a time.
-fn with_movement(z: Zone, v: Movement, time: u32) -> Zone
-    ensures { λ r. ⌜ r ≡ record { work = z .work; movement = v; recorder = z .recorder; time = time } ⌝ }
+// The zone at a time.
+fn at_time(z: Zone, time: u32) -> Zone
+    ensures { λ r. ⌜ r ≡ atTime z time ⌝ }
 {
-    let w = z.work;
-    Zone {
-        work: w,
-        movement: v,
-        recorder: z.recorder,
-        time,
-    }
+    Zone { time, ..z }
 }
 
 fn work_asked(st: Station, z: Zone, m: Message) -> Answer
@@ -102,7 +93,7 @@ fn detection_off(st: Station, z: Zone, m: Message) -> Answer
 fn movement_asked(st: Station, z: Zone, m: Message) -> Answer
     ensures { λ r. ⌜ r ≡ answered 5 st z m ⌝ }
 {
-    let next = with_movement(z, movement_for(m.id, m.d0), m.time);
+    let next = at_time(with_movement(z, movement_for(m.id, m.d0)), m.time);
     settle(z, codes::movement_asked(st, z, m), 0, next)
 }
 
@@ -110,35 +101,31 @@ fn clearance(st: Station, z: Zone, m: Message) -> Answer
     ensures { λ r. ⌜ r ≡ answered 6 st z m ⌝ }
 {
     let w = z.work;
-    let v = z.movement;
-    let next = Zone {
-        work: shut_to(w, sets::only(m.d0 as usize)),
-        movement: cleared_at(v, m.d0, is_efficient(m.d1)),
-        recorder: z.recorder,
-        time: m.time,
-    };
+    let v = movement_under(z, m.id);
+    let y = changed_under(z, m.id, cleared_at(v, m.d0, is_efficient(m.d1)));
+    let next = with_work(y, shut_to(w, sets::only(m.d0 as usize)), m.time);
     settle(z, codes::clearance(st, z, m), 0, next)
 }
 
 fn ordered(st: Station, z: Zone, m: Message) -> Answer
     ensures { λ r. ⌜ r ≡ answered 7 st z m ⌝ }
 {
-    let v = z.movement;
-    let next = with_movement(z, ordered_as(v, m.d0), m.time);
+    let v = movement_under(z, m.id);
+    let next = at_time(changed_under(z, m.id, ordered_as(v, m.d0)), m.time);
     settle(z, codes::ordered(st, z, m), 0, next)
 }
 
 fn passed(st: Station, z: Zone, m: Message) -> Answer
     ensures { λ r. ⌜ r ≡ answered 8 st z m ⌝ }
 {
-    let next = with_movement(z, Movement::NoMovement, m.time);
+    let next = at_time(changed_under(z, m.id, Movement::NoMovement), m.time);
     settle(z, codes::passed(st, z, m), 0, next)
 }
 
 fn cancelled(st: Station, z: Zone, m: Message) -> Answer
     ensures { λ r. ⌜ r ≡ answered 9 st z m ⌝ }
 {
-    let next = with_movement(z, Movement::NoMovement, m.time);
+    let next = at_time(changed_under(z, m.id, Movement::NoMovement), m.time);
     settle(z, codes::cancelled(st, z, m), 0, next)
 }
 
@@ -166,16 +153,13 @@ fn all_restored(st: Station, z: Zone, m: Message) -> Answer
 fn recorder(st: Station, z: Zone, m: Message) -> Answer
     ensures { λ r. ⌜ r ≡ answered 12 st z m ⌝ }
 {
-    let w = z.work;
-    let v = z.movement;
     Answer {
         code: 0,
         minutes: 0,
         zone: Zone {
-            work: w,
-            movement: v,
             recorder: m.d0 == 1,
             time: m.time,
+            ..z
         },
     }
 }

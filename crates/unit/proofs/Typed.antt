@@ -26,9 +26,11 @@ use Rattle.zone.specs.declared.Movement.{Movement}
 use Rattle.zone.specs.declared.Movement.the-variants.{NoMovement, Standing}
 use Rattle.zone.specs.declared.Zone.{Zone}
 use Rattle.zone.specs.Work.{agreedFrom, openedTo, shutTo, restoredOf}
-use Rattle.zone.specs.Movement.{clearedAt, orderedAs}
+use Rattle.zone.specs.Movement.{movementFor, clearedAt, orderedAs}
 use Rattle.zone.specs.Clearance.{isEfficient}
-use Rattle.zone.specs.Kinds.{first, row, rows, noKind, workAfter, movementAfter, zoneAfter, freshZone}
+use Rattle.zone.specs.Kinds.{first, row, rows, noKind, workAfter, moved, zoneAfter, freshZone}
+use Rattle.zone.specs.Trains.{movementUnder, changed}
+use Rattle.zone.proofs.EachTrain.{every-placed, every-changed, every-under}
 use Rattle.desk.specs.declared.Desk.{Desk}
 use Rattle.desk.specs.Desk.{zoneAt, freshDesk, appliedRecord}
 use Rattle.desk_bytes.proofs.Typed.{TypedWork, TypedMovement, TypedZone, TypedDesk, no-work-typed, no-movement-typed, Each, each-none, each-next}
@@ -119,24 +121,33 @@ ordered-typed (Standing p) order fits = record { train = fits .train; cleared = 
 
 -- a zone after a message that passed the checks of its kind
 after-typed : (st : Station) (z : Zone) (m : Message) → Typed m → TypedZone z → first (row (m .kind) st z m) ≡ 0 → TypedZone (zoneAfter (m .kind) z m)
-unfolding zoneAfter row workAfter movementAfter
+unfolding zoneAfter row workAfter moved
 after-typed st z m told fits checks =
     let both = by-kind (m .kind) checks in
     record { work = both .0; movement = both .1; time = told .time }
   where
-    by-kind : (k : ℕ) → first (row k st z m) ≡ 0 → TypedWork (workAfter k (z .work) m) × TypedMovement (movementAfter k (z .movement) m)
+    its : Movement
+    its = movementUnder z (m .id)
+
+    its-typed : TypedMovement (movementUnder z (m .id))
+    its-typed = every-under TypedMovement z (m .id) no-movement-typed (fits .movement)
+
+    becomes : (v : Movement) → TypedMovement v → TypedMovement (changed (z .movement) (m .id) v)
+    becomes v new = every-changed TypedMovement (z .movement) (m .id) v (fits .movement) new
+
+    by-kind : (k : ℕ) → first (row k st z m) ≡ 0 → TypedWork (workAfter k (z .work) m) × TypedMovement (moved k z m .movement)
     by-kind =
-        each-kind (λ k. first (row k st z m) ≡ 0 → TypedWork (workAfter k (z .work) m) × TypedMovement (movementAfter k (z .movement) m))
+        each-kind (λ k. first (row k st z m) ≡ 0 → TypedWork (workAfter k (z .work) m) × TypedMovement (moved k z m .movement))
         (λ none. absurd (omega arith))
         (λ none. (record { form = told .id; set = told .a; since = lit< tt; opened = lit< tt }, fits .movement))
         (λ none. (agreed-typed (z .work) (m .time) (fits .work) (told .time), fits .movement))
         (λ none. (no-work-typed, fits .movement))
         (λ none. (opened-typed (z .work) (union (m .a) (m .b)) (fits .work) (or-lt 64 (m .a) (m .b) (told .a) (told .b)), fits .movement))
-        (λ none. (fits .work, record { train = told .id; cleared = lit< tt; efficient = lit< tt }))
-        (λ none. (shut-typed (z .work) (single (m .d0)) (fits .work), cleared-typed (z .movement) (m .d0) (isEfficient (m .d1)) (fits .movement)))
-        (λ none. (fits .work, ordered-typed (z .movement) (m .d0) (fits .movement)))
-        (λ none. (fits .work, no-movement-typed))
-        (λ none. (fits .work, no-movement-typed))
+        (λ none. (fits .work, every-placed TypedMovement (z .movement) (movementFor (m .id) (m .d0)) (fits .movement) (record { train = told .id; cleared = lit< tt; efficient = lit< tt })))
+        (λ none. (shut-typed (z .work) (single (m .d0)) (fits .work), becomes (clearedAt its (m .d0) (isEfficient (m .d1))) (cleared-typed its (m .d0) (isEfficient (m .d1)) its-typed)))
+        (λ none. (fits .work, becomes (orderedAs its (m .d0)) (ordered-typed its (m .d0) its-typed)))
+        (λ none. (fits .work, becomes NoMovement no-movement-typed))
+        (λ none. (fits .work, becomes NoMovement no-movement-typed))
         (λ none. (restored-typed (z .work) (m .a) (fits .work), fits .movement))
         (λ none. (no-work-typed, fits .movement))
         (λ none. (fits .work, fits .movement))

@@ -16,7 +16,8 @@ use Rattle.zone.specs.declared.Movement.the-variants.{NoMovement}
 use Rattle.zone.specs.declared.Zone.{Zone}
 use Rattle.zone.specs.declared.Answer.{Answer}
 use Rattle.zone.specs.Work.{hasWork, isAgreed, underForm, manner, workSet, agreedAt, minutesBetween, askedFor, agreedFrom, openedTo, shutTo, restoredOf}
-use Rattle.zone.specs.Movement.{isStanding, underTrain, isOrdered, clearedSet, routeFor, namedTurnouts, workedTurnouts, regimeOf, orderRefused, movementFor, clearedAt, orderedAs}
+use Rattle.zone.specs.Movement.{isStanding, isOrdered, clearedSet, routeFor, workedTurnouts, regimeOf, orderRefused, movementFor, clearedAt, orderedAs}
+use Rattle.zone.specs.Trains.{movementUnder, noPlace, namedStanding, clearedStanding, withMovement, changedUnder}
 use Rattle.zone.specs.Clearance.{isEfficient, clearanceFits, mediumFits}
 
 -- a check: the number that is given where the test holds
@@ -37,8 +38,12 @@ Row = Station → Zone → Message → List Check
 abbrev pub noWorkUnder : Zone → Message → Bool
 noWorkUnder z m = not (underForm (z .work) (m .id))
 
+-- the movement that a message of kinds 6 to 9 is about
+abbrev pub itsMovement : Zone → Message → Movement
+itsMovement z m = movementUnder z (m .id)
+
 abbrev pub noMovementUnder : Zone → Message → Bool
-noMovementUnder z m = not (underTrain (z .movement) (m .id))
+noMovementUnder z m = not (isStanding (itsMovement z m))
 
 -- "a empty, outside the zone or splitting a crossover (Art. 2.16, 2.19)"
 abbrev pub badRequest : Station → ℕ → ℕ → Bool
@@ -57,12 +62,12 @@ abbrev pub badPart : Station → ℕ → ℕ → Bool
 badPart st set a = isEmpty a || not (within a set) || eqb a set || splits st a
 
 -- "a standing movement names a turnout of the work (2, 11) or of a (10)"
-abbrev pub inTheWay : Station → Movement → ℕ → Bool
-inTheWay st v s = overlaps (namedTurnouts st v) s
+abbrev pub inTheWay : Station → Zone → ℕ → Bool
+inTheWay st z s = overlaps (namedStanding st z) s
 
 -- "a cleared turnout in a or b"
-abbrev pub clearedAmong : Movement → ℕ → Bool
-clearedAmong v s = overlaps (clearedSet v) s
+abbrev pub clearedAmong : Zone → ℕ → Bool
+clearedAmong z s = overlaps (clearedStanding z) s
 
 -- "b not empty under verbal"
 abbrev pub deviceUnderVerbal : Work → ℕ → Bool
@@ -93,7 +98,7 @@ abbrev pub row2 : Row
 row2 st z m =
     (noWorkUnder z m gives 15)
     ∷ (isAgreed (z .work) gives 18)
-    ∷ (inTheWay st (z .movement) (workSet (z .work)) gives 19)
+    ∷ (inTheWay st z (workSet (z .work)) gives 19)
     ∷ []
 
 -- 3 withdrawn: "15; 18 agreed"
@@ -106,21 +111,21 @@ row4 st z m =
     (noWorkUnder z m gives 15)
     ∷ (badDetection (workSet (z .work)) (m .a) (m .b) gives 17)
     ∷ (not (isAgreed (z .work)) gives 18)
-    ∷ (clearedAmong (z .movement) (union (m .a) (m .b)) gives 19)
+    ∷ (clearedAmong z (union (m .a) (m .b)) gives 19)
     ∷ (deviceUnderVerbal (z .work) (m .b) gives 22)
     ∷ []
 
 -- 5 movement asked: "16 movement in zone; 17 .."
 abbrev pub row5 : Row
-row5 st z m = (isStanding (z .movement) gives 16) ∷ (badRoute st (m .zone) (m .d0) gives 17) ∷ []
+row5 st z m = (noPlace z gives 16) ∷ (badRoute st (m .zone) (m .d0) gives 17) ∷ []
 
 -- 6 clearance: "15; 16 cleared already; 17 not under agreed work or not named; 20; 21"
 abbrev pub row6 : Row
 row6 st z m =
     (noMovementUnder z m gives 15)
-    ∷ (isCleared (z .movement) (m .d0) gives 16)
-    ∷ (notWorked st (z .work) (z .movement) (m .d0) gives 17)
-    ∷ (misfits st (z .movement) m gives 20)
+    ∷ (isCleared (itsMovement z m) (m .d0) gives 16)
+    ∷ (notWorked st (z .work) (itsMovement z m) (m .d0) gives 17)
+    ∷ (misfits st (itsMovement z m) m gives 20)
     ∷ (not (mediumFits (z .recorder) (m .d4)) gives 21)
     ∷ []
 
@@ -128,17 +133,17 @@ row6 st z m =
 abbrev pub row7 : Row
 row7 st z m =
     (noMovementUnder z m gives 15)
-    ∷ (isOrdered (z .movement) gives 18)
-    ∷ (orderForbidden st (z .work) (z .movement) (m .d0) gives 22)
+    ∷ (isOrdered (itsMovement z m) gives 18)
+    ∷ (orderForbidden st (z .work) (itsMovement z m) (m .d0) gives 22)
     ∷ []
 
 -- 8 passed: "15; 18 not ordered"
 abbrev pub row8 : Row
-row8 st z m = (noMovementUnder z m gives 15) ∷ (not (isOrdered (z .movement)) gives 18) ∷ []
+row8 st z m = (noMovementUnder z m gives 15) ∷ (not (isOrdered (itsMovement z m)) gives 18) ∷ []
 
 -- 9 cancelled: "15; 18 ordered"
 abbrev pub row9 : Row
-row9 st z m = (noMovementUnder z m gives 15) ∷ (isOrdered (z .movement) gives 18) ∷ []
+row9 st z m = (noMovementUnder z m gives 15) ∷ (isOrdered (itsMovement z m) gives 18) ∷ []
 
 -- 10 part restored: "15; 17 ..; 18 not agreed; 19; 22 under M.45 (2.13)"
 abbrev pub row10 : Row
@@ -146,7 +151,7 @@ row10 st z m =
     (noWorkUnder z m gives 15)
     ∷ (badPart st (workSet (z .work)) (m .a) gives 17)
     ∷ (not (isAgreed (z .work)) gives 18)
-    ∷ (inTheWay st (z .movement) (m .a) gives 19)
+    ∷ (inTheWay st z (m .a) gives 19)
     ∷ (eqb (manner (z .work)) 1 gives 22)
     ∷ []
 
@@ -155,7 +160,7 @@ abbrev pub row11 : Row
 row11 st z m =
     (noWorkUnder z m gives 15)
     ∷ (not (isAgreed (z .work)) gives 18)
-    ∷ (inTheWay st (z .movement) (workSet (z .work)) gives 19)
+    ∷ (inTheWay st z (workSet (z .work)) gives 19)
     ∷ []
 
 -- 12 recorder: no check
@@ -195,25 +200,33 @@ workAfter kind =
     ∷ [])
     kind keepsWork
 
--- what each kind does to the zone's movement
-abbrev pub keepsMovement : Movement → Message → Movement
-keepsMovement v m = v
+-- what each kind does to the zone's movements
+abbrev pub keepsMovements : Zone → Message → Zone
+keepsMovements z m = z
 
-unfoldable pub movementAfter : ℕ → Movement → Message → Movement
-movementAfter kind =
+unfoldable pub moved : ℕ → Zone → Message → Zone
+moved kind =
     getD
-    (keepsMovement
-    ∷ keepsMovement
-    ∷ keepsMovement
-    ∷ keepsMovement
-    ∷ keepsMovement
-    ∷ (λ v m. movementFor (m .id) (m .d0))
-    ∷ (λ v m. clearedAt v (m .d0) (isEfficient (m .d1)))
-    ∷ (λ v m. orderedAs v (m .d0))
-    ∷ (λ v m. NoMovement)
-    ∷ (λ v m. NoMovement)
+    (keepsMovements
+    ∷ keepsMovements
+    ∷ keepsMovements
+    ∷ keepsMovements
+    ∷ keepsMovements
+    ∷ (λ z m. withMovement z (movementFor (m .id) (m .d0)))
+    ∷ (λ z m. changedUnder z (m .id) (clearedAt (itsMovement z m) (m .d0) (isEfficient (m .d1))))
+    ∷ (λ z m. changedUnder z (m .id) (orderedAs (itsMovement z m) (m .d0)))
+    ∷ (λ z m. changedUnder z (m .id) NoMovement)
+    ∷ (λ z m. changedUnder z (m .id) NoMovement)
     ∷ [])
-    kind keepsMovement
+    kind keepsMovements
+
+-- the zone with other work, at a time
+abbrev pub withWork : Zone → Work → ℕ → Zone
+withWork z w time = record { work = w; movement = z .movement; recorder = z .recorder; time = time }
+
+-- the zone at a time
+abbrev pub atTime : Zone → ℕ → Zone
+atTime z time = record { work = z .work; movement = z .movement; recorder = z .recorder; time = time }
 
 -- 12: "set", 1 working
 unfoldable pub recorderAfter : ℕ → Bool → Message → Bool
@@ -226,7 +239,7 @@ minutesFor kind w m = cond (eqb kind 11) (minutesBetween (agreedAt w) (m .time))
 unfoldable pub zoneAfter : ℕ → Zone → Message → Zone
 zoneAfter kind z m = record {
   work = workAfter kind (z .work) m;
-  movement = movementAfter kind (z .movement) m;
+  movement = moved kind z m .movement;
   recorder = recorderAfter kind (z .recorder) m;
   time = m .time;
 }

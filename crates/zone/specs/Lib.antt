@@ -1,4 +1,5 @@
 pub mod Work
 pub mod Movement
+pub mod Trains
 pub mod Clearance
 pub mod Kinds

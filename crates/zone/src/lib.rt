@@ -6,6 +6,7 @@ ghost use Rattle.zone.specs.Kinds.{settled, freshZone};
 
 pub mod clearances;
 pub mod movements;
+pub mod trains;
 pub mod works;
 
 // What was asked for: the form number, how it was recorded (1 form M.45, 2 recorded verbal), the turnouts.

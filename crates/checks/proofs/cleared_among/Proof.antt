@@ -7,7 +7,7 @@ returns : tie.Need-returns
 returns c =
     rw (
       c .overlap .ensures,
-      c .before .cleared-set .ensures,
+      c .before .cleared-standing .ensures,
     )
 
 pub cleared-among-spec : {M : Type 1} → statement M

@@ -7,7 +7,7 @@ returns : tie.Need-returns
 returns c =
     rw (
       c .overlap .ensures,
-      c .before .named-turnouts .ensures,
+      c .before .named-standing .ensures,
     )
 
 pub names-of-spec : {M : Type 1} → statement M

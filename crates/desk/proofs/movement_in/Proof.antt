@@ -5,16 +5,17 @@ use Rattle.desk.proofs.movement_in.Tie as tie
 
 returns : tie.Need-returns
 returns c =
-    rw (c .movement-refused .ensures, ← c .before .before .under-train .ensures, c .before .if1 .taken)
+    rw (c .movement-refused .ensures, ← c .before .before .before .movement-under .ensures, ← c .before .before .is-standing .ensures, c .before .if1 .taken)
 
 returns-2 : tie.Need-returns-2
 returns-2 c =
-    rw (← c .before .before .before .before .before .under-train .ensures, c .before .before .before .before .if1 .left, c .how-many .ensures, c .before .lowest-of .ensures, c .before .before .regime .ensures, c .before .before .before .lacking-clearance .ensures)
+    rw (← c .before .before .before .before .before .before .movement-under .ensures, ← c .before .before .before .before .before .is-standing .ensures, c .before .before .before .before .if1 .left, c .how-many .ensures, c .before .lowest-of .ensures, c .before .before .regime .ensures, c .before .before .before .lacking-clearance .ensures)
 
 pub movement-in-spec : {M : Type 1} → statement M
 movement-in-spec =
     tie.close
     (tie.spec
+    (λ c κs. search needs)
     (λ c κs. search needs)
     (λ c κs. search needs)
     returns

@@ -1,27 +1,33 @@
 -- `kinds::clearance` meets its contract: the rule, from what each call ensures. Assumes nothing.
-use Rattle.zone.specs.Kinds.{answered, zoneAfter, workAfter, movementAfter, recorderAfter, minutesFor}
+use Rattle.zone.specs.Kinds.{answered, zoneAfter, workAfter, moved, recorderAfter, minutesFor}
 use borrow.Author.Needs.{needs}
 use Rattle.kinds.proofs.clearance.Statement.{statement}
 use Rattle.kinds.proofs.clearance.Tie as tie
 
 returns : tie.Need-returns
-unfolding answered zoneAfter workAfter movementAfter recorderAfter minutesFor
+unfolding answered zoneAfter workAfter moved recorderAfter minutesFor
 returns c =
     rw (
       c .settle .ensures,
       c .before .clearance .ensures,
-      c .before .before .cleared-at .ensures,
-      c .before .before .before .is-efficient .ensures,
-      c .before .before .before .before .shut-to .ensures,
-      c .before .before .before .before .before .only .ensures,
+      c .before .before .with-work .ensures,
+      c .before .before .before .shut-to .ensures,
+      c .before .before .before .before .only .ensures,
+      c .before .before .before .before .before .before .changed-under .ensures,
+      c .before .before .before .before .before .before .before .cleared-at .ensures,
+      c .before .before .before .before .before .before .before .before .is-efficient .ensures,
+      c .before .before .before .before .before .before .before .before .before .movement-under .ensures,
     )
 
 pub clearance-spec : {M : Type 1} → statement M
 clearance-spec =
     tie.close
     (tie.spec
-    (λ c. search needs)
     (λ c κs. search needs)
+    (λ c κs. search needs)
+    (λ c κs. search needs)
+    (λ c κs. search needs)
+    (λ c. search needs)
     (λ c κs. search needs)
     (λ c κs. search needs)
     (λ c κs. search needs)

@@ -1,11 +1,11 @@
 -- `kinds::work_asked` meets its contract: the rule, from what each call ensures. Assumes nothing.
-use Rattle.zone.specs.Kinds.{answered, zoneAfter, workAfter, movementAfter, recorderAfter, minutesFor}
+use Rattle.zone.specs.Kinds.{answered, zoneAfter, workAfter, moved, recorderAfter, minutesFor}
 use borrow.Author.Needs.{needs}
 use Rattle.kinds.proofs.work_asked.Statement.{statement}
 use Rattle.kinds.proofs.work_asked.Tie as tie
 
 returns : tie.Need-returns
-unfolding answered zoneAfter workAfter movementAfter recorderAfter minutesFor
+unfolding answered zoneAfter workAfter moved recorderAfter minutesFor
 returns c =
     rw (
       c .settle .ensures,

@@ -9,7 +9,7 @@ unfolding row
 returns c =
     rw (
       c .first-code2 .ensures,
-      c .before .is-standing .ensures,
+      c .before .no-place .ensures,
       c .before .before .first-code .ensures,
       c .before .before .before .bad-route .ensures,
     )

@@ -14,12 +14,14 @@ returns c =
       c .before .before .before .is-ordered .ensures,
       c .before .before .before .before .first-code .ensures,
       c .before .before .before .before .before .order-forbidden .ensures,
+      c .before .before .before .before .before .before .movement-under .ensures,
     )
 
 pub ordered-spec : {M : Type 1} → statement M
 ordered-spec =
     tie.close
     (tie.spec
+    (λ c κs. search needs)
     (λ c κs. search needs)
     (λ c κs. search needs)
     (λ c κs. search needs)

@@ -12,12 +12,14 @@ returns c =
       c .before .no-movement-under .ensures,
       c .before .before .first-code .ensures,
       c .before .before .before .is-ordered .ensures,
+      c .before .before .before .before .movement-under .ensures,
     )
 
 pub passed-spec : {M : Type 1} → statement M
 passed-spec =
     tie.close
     (tie.spec
+    (λ c κs. search needs)
     (λ c κs. search needs)
     (λ c κs. search needs)
     (λ c κs. search needs)

@@ -1,0 +1,114 @@
+-- One train's movement and the messages of that train: one more of them, kind by kind. Nothing here knows of other trains or of work.
+-- Assumes nothing.
+use mathlib.Core.Bool.{Bool, true, false, cond, not, _&&_, _||_, and-true, and-false, and-eq-true-iff, true≢false}
+use mathlib.Core.List.{List, []}
+use mathlib.Core.Path.{_≡_, refl, sym, ap, ap₂, subst, _∙_}
+use Prim.Native.Nat.{ℕ, _<_}
+use borrow.Author.Tests.{eqb-true, eqb-false, eq-eqb, ne-eqb, lt-ltb, not-true, not-false}
+use lib.Dec.{eqb}
+use Rattle.sets.specs.Sets.{has, single, union}
+use Rattle.sets.proofs.Membership.{has-zero, has-or, has-single}
+use Rattle.message.specs.declared.Message.{Message}
+use Rattle.station.specs.declared.Station.{Station}
+use Rattle.station.specs.Station.{theRoute, driveOf}
+use Rattle.zone.specs.declared.Passage.{Passage}
+use Rattle.zone.specs.declared.Movement.{Movement}
+use Rattle.zone.specs.declared.Movement.the-variants.{NoMovement, Standing}
+use Rattle.zone.specs.Movement.{underTrain, routeFor, movementFor, clearedAt, orderedAs}
+use Rattle.zone.specs.Clearance.{isEfficient, positionFits, driveFits, clampFits, clearanceFits}
+use Rattle.history.specs.Since.{Since, any}
+use Rattle.history.specs.History.{is, clears, leaves, clearsWell}
+use Rattle.history.proofs.Append.{_then_, extend, any-more}
+use Rattle.history.proofs.More.{standing-asked, standing-left, standing-on}
+use Rattle.history.proofs.Agrees.{Stands, MovementAgrees, is-kind, NotMovement, movement-kept}
+
+eqb-sym : (x y : ℕ) → eqb x y ≡ eqb y x
+eqb-sym x y = go (eqb x y) refl
+  where
+    go : (b : Bool) → eqb x y ≡ b → eqb x y ≡ eqb y x
+    go true q = q ∙ sym (eq-eqb y x (sym (eqb-true x y q)))
+    go false q = q ∙ sym (ne-eqb y x (λ (e : y ≡ x). eqb-false x y q (sym e)))
+
+-- the set of a turnout below 64
+pub alone : (n t : ℕ) → n < 64 → has (single n) t ≡ eqb n t
+alone n t below = has-single n t ∙ rw (lt-ltb n 64 below) (eqb-sym t n)
+
+module _ (st : Station) (L : List Message) (m : Message) where
+  -- 5
+  pub asked-agrees : m .kind ≡ 5 → MovementAgrees st (L then m) (movementFor (m .id) (m .d0))
+  unfolding any
+  asked-agrees e = record {
+    asked = m;
+    rest = [];
+    stands = standing-asked L m (is-kind m 5 5 e);
+    train = refl;
+    route = refl;
+    cleared = λ t. sym (has-zero t);
+    efficient = λ t. sym (has-zero t);
+  }
+
+  -- 8, 9
+  pub left-agrees : is 5 m ≡ false → leaves m ≡ true → MovementAgrees st (L then m) NoMovement
+  left-agrees five away = standing-left L m five away
+
+  -- 7
+  pub ordered-agrees : (v : Movement) → m .kind ≡ 7 → MovementAgrees st L v → MovementAgrees st (L then m) (orderedAs v (m .d0))
+  ordered-agrees v e a = ordered v (movement-kept st L m v (record { five = is-kind m 7 5 e; six = is-kind m 7 6 e; eight = is-kind m 7 8 e; nine = is-kind m 7 9 e }) a)
+    where
+      ordered : (v : Movement) → MovementAgrees st (L then m) v → MovementAgrees st (L then m) (orderedAs v (m .d0))
+      ordered NoMovement a = a
+      ordered (Standing p) a = record {
+        asked = a .asked;
+        rest = a .rest;
+        stands = a .stands;
+        train = a .train;
+        route = a .route;
+        cleared = a .cleared;
+        efficient = a .efficient;
+      }
+
+  -- 6
+  pub cleared-agrees : (v : Movement) → m .kind ≡ 6 → m .d0 < 64 → underTrain v (m .id) ≡ true → not (clearanceFits st (routeFor st v) m) ≡ false
+      → MovementAgrees st L v → MovementAgrees st (L then m) (clearedAt v (m .d0) (isEfficient (m .d1)))
+  unfolding clearanceFits
+  cleared-agrees NoMovement e below train fits a = absurd (true≢false (sym train))
+  cleared-agrees (Standing p) e below train fits a = record {
+    asked = a .asked;
+    rest = a .rest then m;
+    stands = standing-on L m (is-kind m 6 5 e) (rw (is-kind m 6 8 e, is-kind m 6 9 e)) ∙ ap (λ (x : Since). extend x m) (a .stands);
+    train = a .train;
+    route = a .route;
+    cleared = λ t. any-more (clears t) (a .rest) m ∙ ap₂ (λ (o b : Bool). o || b) (a .cleared t) (clears-alone t) ∙ sym (has-or (p .cleared) (single (m .d0)) t);
+    efficient = λ t. any-more (clearsWell st (a .asked) t) (a .rest) m ∙ ap₂ (λ (o b : Bool). o || b) (a .efficient t) (well t (eqb (m .d0) t) refl)
+        ∙ sym (has-or (p .efficient) (cond (isEfficient (m .d1)) (single (m .d0)) 0) t);
+  }
+    where
+      clears-alone : (t : ℕ) → clears t m ≡ has (single (m .d0)) t
+      clears-alone t = rw (is-kind m 6 6 e) (sym (alone (m .d0) t below))
+
+      -- the clearance is for this train, in the route's position
+      this-train : m .id ≡ a .asked .id
+      this-train = sym (a .train ∙ eqb-true (p .train) (m .id) train)
+
+      position : eqb (m .d2) (cond (has (theRoute st (a .asked .d0) .reverse) (m .d0)) 1 0) ≡ true
+      position =
+          let r = theRoute st (p .route) in
+          let fit-position = positionFits r (m .d0) (m .d2) in
+          let fit-drive = driveFits (m .d1) (driveOf st (m .d0)) in
+          let fit-clamp = clampFits (m .d1) (has (r .over) (m .d0)) (m .d3) in
+          let all = not-false (fit-position && fit-drive && fit-clamp) fits in
+          rw (a .route) (and-eq-true-iff fit-position fit-drive .0 (and-eq-true-iff (fit-position && fit-drive) fit-clamp .0 all .0) .0)
+
+      marked : (b : Bool) (t : ℕ) → has (cond b (single (m .d0)) 0) t ≡ (b && eqb (m .d0) t)
+      marked true t = alone (m .d0) t below
+      marked false t = has-zero t
+
+      well : (t : ℕ) (b : Bool) → eqb (m .d0) t ≡ b → clearsWell st (a .asked) t m ≡ has (cond (isEfficient (m .d1)) (single (m .d0)) 0) t
+      well t true q =
+          let eff = isEfficient (m .d1) in
+          let itself = eq-eqb (m .d0) (m .d0) refl in
+          let here : clearsWell st (a .asked) (m .d0) m ≡ eff =
+          rw (is-kind m 6 6 e, itself, eq-eqb (m .id) (a .asked .id) this-train, position) in
+          subst (λ (x : ℕ). clearsWell st (a .asked) x m ≡ has (cond (isEfficient (m .d1)) (single (m .d0)) 0) x) (eqb-true (m .d0) t q)
+          (here ∙ sym (marked eff (m .d0) ∙ rw itself (and-true eff)))
+      well t false q = rw (is-kind m 6 6 e, q) (sym (marked (isEfficient (m .d1)) t ∙ rw q (and-false (isEfficient (m .d1)))))

@@ -12,8 +12,10 @@ use Rattle.message.specs.Fields.{named, fieldsKept, fieldNumber}
 use Rattle.message.specs.Record.{decoded, headBytes, encoded, readRecord}
 use Rattle.zone.specs.Work.{minutesBetween}
 use Rattle.station.specs.Station.{tiedWith, tied, theRoute, zoneTurnouts, splits}
-use Rattle.layout.specs.Layout.{headerNumber, valuesFrom, places, stationIn}
-use Rattle.sheet.specs.Sheet.{goodTurnout, goodRoute, badTurnout, badRoute, judged, readSheet}
+use Rattle.layout.specs.Layout.{headerNumber, stationIn}
+use Rattle.sets.specs.Table.{valuesFrom, places}
+use Rattle.sheet.specs.Partners.{goodTurnout, badTurnout}
+use Rattle.sheet.specs.Sheet.{goodRoute, badRoute, routesJudged, judged, readSheet}
 use Rattle.zone.specs.Trains.{movementUnder, noPlace, namedStanding, clearedStanding, placed, changed}
 use Rattle.zone.specs.Kinds.{row, workAfter, moved, recorderAfter, minutesFor, zoneAfter, answered, heard}
 use Rattle.message.specs.declared.Message.{Message}
@@ -44,7 +46,7 @@ module _ (movement : Station → Desk → ℕ → ℕ → MovementAnswer) (held 
 
   -- with no work anywhere each turnout of the route has what it needs, so the signals must be clear
   pub always-held-fails : Demand3 alwaysHeld → ⊥
-  unfolding readSheet headerNumber stationIn places valuesFrom judged badTurnout badRoute goodTurnout goodRoute firstFrom allFrom tied tiedWith has single after accepted ofZone applied named fieldsKept fieldNumber heard answered row workAfter moved movementUnder noPlace namedStanding clearedStanding placed changed recorderAfter minutesFor zoneAfter theRoute freshDesk movementAnswered underAgreedWork standing afterLast any openToWork appliedRecord readRecord decoded headBytes encoded afterFirst anyThenNone zoneTurnouts setOf splits minutesBetween
+  unfolding readSheet headerNumber stationIn places valuesFrom judged routesJudged badTurnout badRoute goodTurnout goodRoute firstFrom allFrom tied tiedWith has single after accepted ofZone applied named fieldsKept fieldNumber heard answered row workAfter moved movementUnder noPlace namedStanding clearedStanding placed changed recorderAfter minutesFor zoneAfter theRoute freshDesk movementAnswered underAgreedWork standing afterLast any openToWork appliedRecord readRecord decoded headBytes encoded afterFirst anyThenNone zoneTurnouts setOf splits minutesBetween
   always-held-fails demand =
       let clear = demand sheetK (station-k .sheet) onlyMovement .clear 0 movementK [] refl .1 (λ t named under. absurd (true≢false (sym under))) in
       true≢false (sym (ap isClear clear) ∙ held _ _ _ _)
@@ -56,7 +58,7 @@ module _ (answer : Station → ℕ → WorkAnswer) where
 
   -- turnout 0 is open to work after record 3 of station K, and before the first record it is not
   pub keeps-nothing-fails : Demand3 keepsNothing → ⊥
-  unfolding readSheet headerNumber stationIn places valuesFrom judged badTurnout badRoute goodTurnout goodRoute firstFrom allFrom tied tiedWith has single after accepted ofZone applied named fieldsKept fieldNumber heard answered row workAfter moved movementUnder noPlace namedStanding clearedStanding placed changed recorderAfter minutesFor zoneAfter theRoute freshDesk movementAnswered underAgreedWork standing afterLast any openToWork appliedRecord readRecord decoded headBytes encoded afterFirst anyThenNone zoneTurnouts setOf splits minutesBetween
+  unfolding readSheet headerNumber stationIn places valuesFrom judged routesJudged badTurnout badRoute goodTurnout goodRoute firstFrom allFrom tied tiedWith has single after accepted ofZone applied named fieldsKept fieldNumber heard answered row workAfter moved movementUnder noPlace namedStanding clearedStanding placed changed recorderAfter minutesFor zoneAfter theRoute freshDesk movementAnswered underAgreedWork standing afterLast any openToWork appliedRecord readRecord decoded headBytes encoded afterFirst anyThenNone zoneTurnouts setOf splits minutesBetween
   keeps-nothing-fails demand =
       let later = demand sheetK (station-k .sheet) (take 3 recordsK) .work 0 .1 (0, refl) in
       let before = demand sheetK (station-k .sheet) [] .work 0 .0 later in
@@ -70,7 +72,7 @@ abbrev staysFresh : Model
 staysFresh = record { State = Desk; fresh = freshDesk; hear = forgets; movement = movementAnswered; work = workAnswered }
 
 pub stays-fresh-fails : Demand3 staysFresh → ⊥
-unfolding readSheet headerNumber stationIn places valuesFrom judged badTurnout badRoute goodTurnout goodRoute firstFrom allFrom tied tiedWith has single after accepted ofZone applied named fieldsKept fieldNumber heard answered row workAfter moved movementUnder noPlace namedStanding clearedStanding placed changed recorderAfter minutesFor zoneAfter theRoute freshDesk movementAnswered underAgreedWork standing afterLast any openToWork appliedRecord readRecord decoded headBytes encoded afterFirst anyThenNone zoneTurnouts setOf splits minutesBetween
+unfolding readSheet headerNumber stationIn places valuesFrom judged routesJudged badTurnout badRoute goodTurnout goodRoute firstFrom allFrom tied tiedWith has single after accepted ofZone applied named fieldsKept fieldNumber heard answered row workAfter moved movementUnder noPlace namedStanding clearedStanding placed changed recorderAfter minutesFor zoneAfter theRoute freshDesk movementAnswered underAgreedWork standing afterLast any openToWork appliedRecord readRecord decoded headBytes encoded afterFirst anyThenNone zoneTurnouts setOf splits minutesBetween
 stays-fresh-fails demand =
     let clear = demand sheetK (station-k .sheet) onlyMovement .clear 0 movementK [] refl .1 (λ t named under. absurd (true≢false (sym under))) in
     true≢false (sym (ap isClear clear))

@@ -12,8 +12,10 @@ use Rattle.message.specs.Fields.{named, fieldsKept, fieldNumber}
 use Rattle.message.specs.Record.{decoded, headBytes, encoded, readRecord, WriteAnswer}
 use Rattle.station.specs.declared.Station.{Station}
 use Rattle.station.specs.Station.{tiedWith, tied, zoneTurnouts, theRoute, splits}
-use Rattle.layout.specs.Layout.{headerNumber, valuesFrom, places, stationIn}
-use Rattle.sheet.specs.Sheet.{goodTurnout, goodRoute, badTurnout, badRoute, judged, readSheet}
+use Rattle.layout.specs.Layout.{headerNumber, stationIn}
+use Rattle.sets.specs.Table.{valuesFrom, places}
+use Rattle.sheet.specs.Partners.{goodTurnout, badTurnout}
+use Rattle.sheet.specs.Sheet.{goodRoute, badRoute, routesJudged, judged, readSheet}
 use Rattle.signals.specs.Answer as Verdicts
 use Rattle.zone.specs.Work.{minutesBetween}
 use Rattle.zone.specs.Movement.{regimeOf}
@@ -203,7 +205,7 @@ pub record Cases : Type 0 where
   pub other-position : any (clearsWell stationK (naming 5 110 512 0 0 0) 0) (reversed ∷ []) ≡ false
 
 pub station-k : Cases
-unfolding readSheet headerNumber stationIn places valuesFrom judged badTurnout badRoute goodTurnout goodRoute firstFrom allFrom tied tiedWith has single after answers accepted ofZone applied appliedRecord readRecord decoded headBytes encoded named fieldsKept fieldNumber heard answered row workAfter moved movementUnder noPlace namedStanding clearedStanding placed changed recorderAfter minutesFor minutesBetween zoneAfter zoneTurnouts setOf splits theRoute regimeOf clearanceFits freshDesk workAnswered isJournal journalNumber counted recordsFrom records inputsOf replayed ran storedFrom withAnswer textOf linesFrom lineOf decimal digits underAgreedWork openToWork standing cleared afterLast afterFirst any anyThenNone Verdicts.judged
+unfolding readSheet headerNumber stationIn places valuesFrom judged routesJudged badTurnout badRoute goodTurnout goodRoute firstFrom allFrom tied tiedWith has single after answers accepted ofZone applied appliedRecord readRecord decoded headBytes encoded named fieldsKept fieldNumber heard answered row workAfter moved movementUnder noPlace namedStanding clearedStanding placed changed recorderAfter minutesFor minutesBetween zoneAfter zoneTurnouts setOf splits theRoute regimeOf clearanceFits freshDesk workAnswered isJournal journalNumber counted recordsFrom records inputsOf replayed ran storedFrom withAnswer textOf linesFrom lineOf decimal digits underAgreedWork openToWork standing cleared afterLast afterFirst any anyThenNone Verdicts.judged
 station-k = record {
   sheet = refl;
   output = refl;

@@ -1,10 +1,11 @@
 -- The bytes of a station sheet: document 01, 'Station sheet'.
 use mathlib.Core.Bool.{Bool, cond, not, _&&_}
-use mathlib.Core.List.{List, [], _∷_}
-use Prim.Native.Nat.{ℕ, zero, suc, _+_, _*_}
+use mathlib.Core.List.{List}
+use Prim.Native.Nat.{ℕ, _+_, _*_}
 use lib.Dec.{eqb, ltb, leb}
 use lib.ListN.{length, getD}
 use Rattle.bigendian.specs.BigEndian.{numberAt}
+use Rattle.sets.specs.Table.{places}
 use Rattle.station.specs.declared.Turnout.{Turnout}
 use Rattle.station.specs.declared.Route.{Route}
 use Rattle.station.specs.declared.Station.{Station}
@@ -34,12 +35,15 @@ countsKept p r z = leb 1 p && leb p 64 && leb r 64 && leb 1 z && leb z 8
 abbrev pub sheetLength : ℕ → ℕ → ℕ
 sheetLength p r = 8 + 3 * p + 33 * r
 
+abbrev pub versionKept : ℕ → Bool
+versionKept v = eqb v 1
+
 -- "Order: under 8 bytes, mark, version, counts (zone byte included), length": the number of the first that fails, else 0
 unfoldable pub headerNumber : List ℕ → ℕ
 headerNumber s =
     cond (ltb (length s) 8) 1
     (cond (not (hasMark s)) 2
-    (cond (not (eqb (version s) 1)) 3
+    (cond (not (versionKept (version s))) 3
     (cond (not (countsKept (countP s) (countR s) (countZ s))) 4
     (cond (not (eqb (length s) (sheetLength (countP s) (countR s)))) 1
     0))))
@@ -63,16 +67,6 @@ turnoutPlace n = 8 + 3 * n
 
 abbrev pub routePlace : ℕ → ℕ → ℕ
 routePlace p n = 8 + 3 * p + 33 * n
-
--- the k values of f from i on
-unfoldable pub valuesFrom : {A : Type 0} → (ℕ → A) → ℕ → ℕ → List A
-valuesFrom f i zero = []
-valuesFrom f i (suc k) = f i ∷ valuesFrom f (i + 1) k
-
--- 64 places: f at each place below n, and e at the others
-unfoldable pub places : {A : Type 0} → (ℕ → A) → ℕ → A → List A
-unfolding valuesFrom
-places f n e = valuesFrom (λ i. cond (ltb i n) (f i) e) 0 64
 
 -- the station that stands in the bytes; "Records past P and R are 0 in the station."
 unfoldable pub stationIn : List ℕ → Station

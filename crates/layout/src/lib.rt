@@ -4,15 +4,16 @@ ghost use mathlib.Core.Path.{_≡_};
 ghost use Prim.Native.Nat.{_<_};
 ghost use Rattle.layout.specs.Layout.{
   hasMark,
+  versionKept,
   countsKept,
   headerNumber,
   turnoutIn,
   routeIn,
   turnoutPlace,
   routePlace,
-  places,
   stationIn,
 };
+ghost use Rattle.sets.specs.Table.{places};
 ghost use Rattle.station.specs.Station.{emptyTurnout, emptyRoute};
 use station::Route;
 use station::Station;
@@ -50,6 +51,13 @@ fn counts_kept(p: u8, r: u8, z: u8) -> bool
     (1 <= p) & (p <= 64) & (r <= 64) & (1 <= z) & (z <= 8)
 }
 
+// Whether a version is one that can be read.
+fn version_kept(v: u16) -> bool
+    ensures { λ r. ⌜ r ≡ versionKept v ⌝ }
+{
+    v == 1
+}
+
 // 0 if the header and the length are good, else the first number of 1, 2, 3, 4, 1 that fits.
 pub fn header_code(s: &[u8]) -> u8
     ensures { λ r. ⌜ r ≡ headerNumber (now (s .entry)) ⌝ }
@@ -66,7 +74,7 @@ pub fn header_code(s: &[u8]) -> u8
         BAD_COUNTS,
         length,
     );
-    let version = first_code(bigendian::get16(s, 3) != 1, BAD_VERSION, counts);
+    let version = first_code(!version_kept(bigendian::get16(s, 3)), BAD_VERSION, counts);
     let mark = first_code(!has_mark(s), BAD_MARK, version);
     first_code(s.len() < HEADER, BAD_LENGTH, mark)
 }

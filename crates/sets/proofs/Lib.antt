@@ -2,3 +2,4 @@ pub mod Membership
 pub mod Members
 pub mod Counting
 pub mod Ranges
+pub mod Tables

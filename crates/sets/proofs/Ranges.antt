@@ -1,9 +1,11 @@
 -- Tests on a range of numbers, one number further: what a loop over the range needs; and what it means that all pass, or none.
-use mathlib.Core.Bool.{Bool, true, false, cond, _&&_, and-eq-true-iff}
-use mathlib.Core.Path.{_≡_, refl, sym, ap, _∙_}
+use mathlib.Core.Bool.{Bool, true, false, cond, not, _&&_, and-eq-true-iff}
+use mathlib.Core.Path.{_≡_, refl, sym, ap, ap₂, _∙_}
 use Prim.Native.Nat.{ℕ, zero, suc, _+_, _-_, _≤_, _<_}
 use native.Mathlib.Nat.{sub-self, zero-add, add-zero, le-of-suc-le-suc, not-suc-le-zero}
 use native.Mathlib.Omega.{arith}
+use borrow.Author.Tests.{le-ltb}
+use lib.Dec.{ltb}
 use Rattle.sets.specs.Range.{firstFrom, allFrom}
 
 -- what is left of a range, counted by its next number
@@ -61,3 +63,29 @@ module _ (p : ℕ → Bool) where
   -- of the numbers below k
   pub none-below : (k : ℕ) → k ≤ firstFrom p 0 k → (n : ℕ) → n < k → p n ≡ false
   none-below k h n l = ap p (sym (zero-add n)) ∙ first-none 0 k (rw (zero-add k) h) n l
+
+-- tests that agree on a range
+module _ (p q : ℕ → Bool) where
+  all-same-from : (i k : ℕ) → ((j : ℕ) → i ≤ j → j < i + k → p j ≡ q j) → allFrom p i k ≡ allFrom q i k
+  unfolding allFrom
+  all-same-from i zero h = refl
+  all-same-from i (suc k) h =
+      ap₂ (λ (a b : Bool). a && b) (h i (omega arith) (omega arith))
+      (all-same-from (i + 1) k (λ j l m. h j (omega arith) (omega arith)))
+
+  -- of the numbers below k
+  pub all-same : (k : ℕ) → ((j : ℕ) → j < k → p j ≡ q j) → allFrom p 0 k ≡ allFrom q 0 k
+  all-same k h = all-same-from 0 k (λ j l m. h j (omega arith))
+
+-- where none is bad, the search for a bad one ends at the count
+all-good : (good : ℕ → Bool) (i k : ℕ) → ((n : ℕ) → n < i + k → good n ≡ true) → firstFrom (λ n. not (good n)) i k ≡ i + k
+unfolding firstFrom
+all-good good i zero h = omega arith
+all-good good i (suc k) h =
+    let later : firstFrom (λ n. not (good n)) (i + 1) k ≡ i + suc k = all-good good (i + 1) k (λ n l. h n (omega arith)) ∙ omega arith in
+    ap (λ (b : Bool). cond (not b) i (firstFrom (λ n. not (good n)) (i + 1) k)) (h i (omega arith)) ∙ later
+
+pub not-found : (good : ℕ → Bool) (k : ℕ) → ((n : ℕ) → n < k → good n ≡ true) → ltb (firstFrom (λ n. not (good n)) 0 k) k ≡ false
+not-found good k h =
+    let at : firstFrom (λ n. not (good n)) 0 k ≡ 0 + k = all-good good 0 k (λ n l. h n (omega arith)) in
+    le-ltb (firstFrom (λ n. not (good n)) 0 k) k (omega (arith, at))

@@ -10,14 +10,15 @@ use borrow.Author.Tests.{eqb-true, eqb-false, leb-true, ltb-true, ltb-false, not
 use lib.Dec.{eqb, ltb, leb}
 use lib.ListN.{length}
 use Rattle.sets.specs.Range.{firstFrom}
-use Rattle.sets.proofs.Ranges.{none-below}
+use Rattle.sets.proofs.Ranges.{none-below, not-found}
 use Rattle.station.specs.declared.Station.{Station}
 use Rattle.sheet.specs.declared.Sheet.{Sheet}
 use Rattle.station.specs.Station.{emptyTurnout, emptyRoute, turnoutAt, routeAt, turnoutCount, routeCount, zoneCount, zoneOf, driveOf}
 use Rattle.layout.specs.Layout.{hasMark, version, countP, countR, countZ, countsKept, sheetLength, headerNumber, turnoutIn, turnoutPlace, routeIn, routePlace, stationIn}
-use Rattle.sheet.specs.Sheet.{partnerKept, goodTurnout, goodRoute, badTurnout, badRoute, refusedSheet, acceptedSheet, judged, readSheet}
+use Rattle.sheet.specs.Partners.{partnerKept, goodTurnout, badTurnout}
+use Rattle.sheet.specs.Sheet.{goodRoute, badRoute, refusedSheet, acceptedSheet, routesJudged, judged, readSheet}
 use Rattle.sheet.proofs.Joined.{three, five, either}
-use Rattle.layout.proofs.Places.{places-past}
+use Rattle.sets.proofs.Tables.{places-past}
 use Rattle.sheet.proofs.AcceptedRoute.{good-route}
 pub use Rattle.sheet.proofs.AcceptedRoute.{GoodRoute}
 
@@ -50,6 +51,14 @@ pub record GoodTurnout (st : Station) (n : ℕ) : Type 0 where
   pub drive : driveOf st n ≤ 1
   -- "partner (the other end of a crossover, or 255 for none)"
   pub partner : (turnoutAt st n .partner ≡ 255) ⊎ Crossover st n
+
+-- what the reader's tests find of a station, counts in range: the writer asks the same
+pub record Passed (st : Station) : Type 0 where
+  pub counts : GoodCounts st
+  pub turnout : (n : ℕ) → n < st .turnouts → goodTurnout st n ≡ true
+  pub route : (r : ℕ) → r < st .routes → goodRoute st r ≡ true
+  pub past-turnouts : (n : ℕ) → st .turnouts ≤ n → turnoutAt st n ≡ emptyTurnout
+  pub past-routes : (r : ℕ) → st .routes ≤ r → routeAt st r ≡ emptyRoute
 
 -- all that document 01 asks of a station
 pub record Accepted (st : Station) : Type 0 where
@@ -133,7 +142,7 @@ passed :
     (judged st ≡ acceptedSheet st)
     × ((n : ℕ) → n < turnoutCount st → goodTurnout st n ≡ true)
     × ((r : ℕ) → r < routeCount st → goodRoute st r ≡ true)
-unfolding judged badTurnout badRoute
+unfolding judged routesJudged badTurnout badRoute
 passed st h =
     let bad-turnout = ltb (badTurnout st) (turnoutCount st) in
     let bad-route = ltb (badRoute st) (routeCount st) in
@@ -165,17 +174,32 @@ module _ (s : List ℕ) (code-zero : readSheet s .code ≡ 0) where
   pub station-of : readSheet s .station ≡ stationIn s
   station-of = ap (λ (x : Sheet). x .station) (headed .1 ∙ passed (stationIn s) no-refusal .0)
 
-  -- the station of an accepted sheet has all that document 01 asks of a station
-  pub accepted : Accepted (readSheet s .station)
+  -- the station of an accepted sheet passes the tests
+  pub passes : Passed (readSheet s .station)
   unfolding stationIn
-  accepted =
-      let st = stationIn s in
+  passes =
       let counts = good-counts s (headed .0) in
-      let judgement = passed st no-refusal in
+      let judgement = passed (stationIn s) no-refusal in
       rw station-of record {
         counts = counts;
-        turnout = λ n l. good-turnout st counts n (judgement .1 n (omega arith));
-        route = λ r l. good-route st (counts .turnouts-limit) r (judgement .2 r (omega arith));
+        turnout = λ n l. judgement .1 n (omega arith);
+        route = λ r l. judgement .2 r (omega arith);
         past-turnouts = places-past (λ i. turnoutIn s (turnoutPlace i)) (countP s) emptyTurnout;
         past-routes = places-past (λ i. routeIn s (routePlace (countP s) i)) (countR s) emptyRoute;
       }
+
+-- a station that passes the tests has all that document 01 asks
+pub accepted : (st : Station) → Passed st → Accepted st
+accepted st p = record {
+  counts = p .counts;
+  turnout = λ n l. good-turnout st (p .counts) n (p .turnout n l);
+  route = λ r l. good-route st (p .counts .turnouts-limit) r (p .route r l);
+  past-turnouts = p .past-turnouts;
+  past-routes = p .past-routes;
+}
+
+-- and is accepted as it is
+pub fixed : (st : Station) → Passed st → judged st ≡ acceptedSheet st
+unfolding judged routesJudged badTurnout badRoute
+fixed st p =
+    rw (not-found (goodTurnout st) (turnoutCount st) (λ n l. p .turnout n (omega arith)), not-found (goodRoute st) (routeCount st) (λ r l. p .route r (omega arith)))

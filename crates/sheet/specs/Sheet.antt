@@ -11,21 +11,8 @@ use Rattle.station.specs.declared.Route.{Route}
 use Rattle.station.specs.declared.Station.{Station}
 use Rattle.sheet.specs.declared.Sheet.{Sheet}
 use Rattle.station.specs.Station.{emptyStation, turnoutAt, routeAt, turnoutCount, routeCount, zoneCount, tied, namedBy, whole}
+use Rattle.sheet.specs.Partners.{badTurnout}
 use Rattle.layout.specs.Layout.{headerNumber, stationIn}
-
--- "A partner is below P, not itself, names it back, and has the same zone and drive": of turnout n, its record t and its
--- partner's record o
-abbrev pub partnerKept : ℕ → ℕ → Turnout → Turnout → Bool
-partnerKept p n t o =
-    ltb (t .partner) p && not (eqb (t .partner) n) && eqb (o .partner) n && eqb (o .zone) (t .zone) && eqb (o .drive) (t .drive)
-
--- "zone (below Z); partner (the other end of a crossover, or 255 for none); drive (0 electric, 1 hand with key lock)"
-abbrev pub turnoutKept : ℕ → ℕ → ℕ → Turnout → Turnout → Bool
-turnoutKept p z n t o = ltb (t .zone) z && leb (t .drive) 1 && (eqb (t .partner) 255 || partnerKept p n t o)
-
-unfoldable pub goodTurnout : Station → ℕ → Bool
-goodTurnout st n =
-    turnoutKept (turnoutCount st) (zoneCount st) n (turnoutAt st n) (turnoutAt st (turnoutAt st n .partner))
 
 -- the turnouts below p, all of them
 abbrev pub allTurnouts : ℕ → ℕ
@@ -54,9 +41,6 @@ goodRoute st n =
     setsKept (turnoutCount st) r && allFrom (λ t. memberKept r t (turnoutAt st t) (tied st t)) 0 (turnoutCount st)
 
 -- "the first bad record ends the reading": its index, or the count where all are good
-unfoldable pub badTurnout : Station → ℕ
-badTurnout st = firstFrom (λ n. not (goodTurnout st n)) 0 (turnoutCount st)
-
 unfoldable pub badRoute : Station → ℕ
 badRoute st = firstFrom (λ n. not (goodRoute st n)) 0 (routeCount st)
 
@@ -67,12 +51,13 @@ refusedSheet number place = record { code = number; index = place; station = emp
 abbrev pub acceptedSheet : Station → Sheet
 acceptedSheet st = record { code = 0; index = 0; station = st }
 
+-- a station whose turnouts are good, or the number and index of its first bad route
+unfoldable pub routesJudged : Station → Sheet
+routesJudged st = cond (ltb (badRoute st) (routeCount st)) (refusedSheet 6 (badRoute st)) (acceptedSheet st)
+
 -- ".. turnouts, routes": a station whose counts are in range, or the number and index of its first bad record
 unfoldable pub judged : Station → Sheet
-judged st =
-    cond (ltb (badTurnout st) (turnoutCount st)) (refusedSheet 5 (badTurnout st))
-    (cond (ltb (badRoute st) (routeCount st)) (refusedSheet 6 (badRoute st))
-    (acceptedSheet st))
+judged st = cond (ltb (badTurnout st) (turnoutCount st)) (refusedSheet 5 (badTurnout st)) (routesJudged st)
 
 -- the answer to any bytes as a sheet
 unfoldable pub readSheet : List ℕ → Sheet

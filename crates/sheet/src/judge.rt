@@ -1,20 +1,19 @@
 // Judging a station whose counts are in range: the first bad turnout, then the first bad route.
 ghost use mathlib.Core.Path.{_≡_};
 ghost use Rattle.sheet.specs.Sheet.{
-  turnoutKept,
-  partnerKept,
   allTurnouts,
   setsKept,
   memberKept,
-  badTurnout,
   badRoute,
   refusedSheet,
+  routesJudged,
   judged,
 };
 ghost use Prim.Native.Nat.{min};
 use super::BAD_ROUTE;
 use super::BAD_TURNOUT;
 use super::Sheet;
+use super::partners;
 use station::Route;
 use station::Station;
 use station::Turnout;
@@ -22,46 +21,9 @@ use station::names;
 use station::observe::is_whole;
 use station::observe::no_routes;
 use station::observe::no_turnouts;
-use station::observe::record_of;
 use station::observe::tied_with;
 use station::route_count;
 use station::turnout_count;
-use station::zone_count;
-
-// Whether turnout n, with the record t, and its partner's record o are two ends of a crossover.
-fn partner_kept(p: usize, n: usize, t: Turnout, o: Turnout) -> bool
-    ensures { λ r. ⌜ r ≡ partnerKept p n t o ⌝ }
-{
-    let other = t.partner as usize;
-    let back = o.partner as usize;
-    (other < p) & (other != n) & (back == n) & (o.zone == t.zone) & (o.drive == t.drive)
-}
-
-// Whether the record t of turnout n is good, o being its partner's.
-fn turnout_kept(p: usize, z: usize, n: usize, t: Turnout, o: Turnout) -> bool
-    ensures { λ r. ⌜ r ≡ turnoutKept p z n t o ⌝ }
-{
-    let zone = t.zone as usize;
-    (zone < z) & (t.drive <= 1) & ((t.partner == 255) | partner_kept(p, n, t, o))
-}
-
-// The index of the first bad turnout; the count if all are good.
-fn first_bad_turnout(st: Station) -> usize
-    ensures { λ r. ⌜ r ≡ badTurnout st ⌝ }
-{
-    let p = turnout_count(st);
-    let z = zone_count(st);
-    let ts = st.turnout;
-    let mut i: usize = 0;
-    while i < p {
-        let t = ts[i];
-        if !turnout_kept(p, z, i, t, record_of(ts, t.partner as usize)) {
-            return i;
-        }
-        i += 1;
-    }
-    p
-}
 
 // The set of the first p turnouts.
 fn all_turnouts(p: usize) -> u64
@@ -137,14 +99,10 @@ pub fn refused(code: u8, index: u8) -> Sheet
     }
 }
 
-// The station, or the number and index of its first bad record.
-pub fn judge(st: Station) -> Sheet
-    ensures { λ r. ⌜ r ≡ judged st ⌝ }
+// A station whose turnouts are good, or the number and index of its first bad route.
+fn judge_routes(st: Station) -> Sheet
+    ensures { λ r. ⌜ r ≡ routesJudged st ⌝ }
 {
-    let t = first_bad_turnout(st);
-    if t < turnout_count(st) {
-        return refused(BAD_TURNOUT, t as u8);
-    }
     let r = first_bad_route(st);
     if r < route_count(st) {
         return refused(BAD_ROUTE, r as u8);
@@ -154,4 +112,15 @@ pub fn judge(st: Station) -> Sheet
         index: 0,
         station: st,
     }
+}
+
+// The station, or the number and index of its first bad record.
+pub fn judge(st: Station) -> Sheet
+    ensures { λ r. ⌜ r ≡ judged st ⌝ }
+{
+    let t = partners::first_bad_turnout(st);
+    if t < turnout_count(st) {
+        return refused(BAD_TURNOUT, t as u8);
+    }
+    judge_routes(st)
 }

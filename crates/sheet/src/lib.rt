@@ -4,6 +4,7 @@ ghost use mathlib.Core.Path.{_≡_};
 ghost use Rattle.sheet.specs.Sheet.{readSheet};
 
 mod judge;
+mod partners;
 
 // The numbers that refuse a sheet by a record; those of its header and its length are in the crate `layout`.
 pub const BAD_TURNOUT: u8 = 5;

@@ -12,13 +12,14 @@ returns c =
       c .before .first-code4 .ensures,
       c .before .before .has-mark .ensures,
       c .before .before .before .first-code3 .ensures,
-      c .before .before .before .before .get16 .ensures,
-      c .before .before .before .before .before .first-code2 .ensures,
-      c .before .before .before .before .before .before .counts-kept .ensures,
-      c .before .before .before .before .before .before .before .get83 .ensures,
-      c .before .before .before .before .before .before .before .before .first-code .ensures,
-      c .before .before .before .before .before .before .before .before .before .get82 .ensures,
-      c .before .before .before .before .before .before .before .before .before .before .get8 .ensures,
+      c .before .before .before .before .version-kept .ensures,
+      c .before .before .before .before .before .get16 .ensures,
+      c .before .before .before .before .before .before .first-code2 .ensures,
+      c .before .before .before .before .before .before .before .counts-kept .ensures,
+      c .before .before .before .before .before .before .before .before .get83 .ensures,
+      c .before .before .before .before .before .before .before .before .before .first-code .ensures,
+      c .before .before .before .before .before .before .before .before .before .before .get82 .ensures,
+      c .before .before .before .before .before .before .before .before .before .before .before .get8 .ensures,
     )
 
 pub header-code-spec : {M : Type 1} → statement M
@@ -33,6 +34,7 @@ header-code-spec =
     (λ c. search needs)
     (λ c. search needs)
     (λ c. search needs)
+    (λ c κs. search needs)
     (λ c κs. search needs)
     (λ c κs. search needs)
     (λ c κs. search needs)

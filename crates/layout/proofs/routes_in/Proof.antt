@@ -6,9 +6,10 @@ use native.Mathlib.Omega.{arith}
 use denote.Ref.{now}
 use lib.ListN.{set}
 use Rattle.station.specs.declared.Route.{Route}
-use Rattle.layout.proofs.Places.{places-none, places-next, places-limit}
-use Rattle.layout.specs.Layout.{places, routeIn, routePlace}
+use Rattle.sets.proofs.Tables.{places-none, places-next, places-limit}
+use Rattle.layout.specs.Layout.{routeIn, routePlace}
 use Rattle.station.specs.Station.{emptyRoute}
+use Rattle.sets.specs.Table.{places}
 use borrow.Author.Needs.{needs}
 use Rattle.layout.proofs.routes_in.Statement.{statement}
 use Rattle.layout.proofs.routes_in.Tie as tie

@@ -6,9 +6,10 @@ use native.Mathlib.Omega.{arith}
 use denote.Ref.{now}
 use lib.ListN.{set}
 use Rattle.station.specs.declared.Turnout.{Turnout}
-use Rattle.layout.proofs.Places.{places-none, places-next, places-limit}
-use Rattle.layout.specs.Layout.{places, turnoutIn, turnoutPlace}
+use Rattle.sets.proofs.Tables.{places-none, places-next, places-limit}
+use Rattle.layout.specs.Layout.{turnoutIn, turnoutPlace}
 use Rattle.station.specs.Station.{emptyTurnout}
+use Rattle.sets.specs.Table.{places}
 use borrow.Author.Needs.{needs}
 use Rattle.layout.proofs.turnouts_in.Statement.{statement}
 use Rattle.layout.proofs.turnouts_in.Tie as tie

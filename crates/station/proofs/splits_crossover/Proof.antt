@@ -8,29 +8,34 @@ use borrow.Author.Tests.{not-true, not-false}
 use Rattle.sets.specs.Range.{allFrom}
 use Rattle.sets.proofs.Ranges.{all-next, all-end}
 use Rattle.station.specs.declared.Station.{Station}
-use Rattle.station.specs.Station.{turnoutAt, turnoutCount, tied, tiedWith, whole, splits}
+use Rattle.station.specs.Station.{turnoutCount, tied, whole, splits}
 use borrow.Author.Needs.{needs}
 use Rattle.station.proofs.splits_crossover.Statement.{statement}
 use Rattle.station.proofs.splits_crossover.Tie as tie
 
 -- the set s takes turnout k and those tied to it, or none of them
-abbrev test : ℕ → Station → ℕ → ℕ → Bool
-test p st s k = whole (tiedWith p k (turnoutAt st k .partner)) s
+abbrev test : Station → ℕ → ℕ → Bool
+test st s k = whole (tied st k) s
 
 abbrev Inv-loop : tie.InvT-loop
-Inv-loop s st n i₀ i = (i ≤ n) × (allFrom (test n st s) 0 n ≡ allFrom (test n st s) i (n - i))
+Inv-loop s st n i₀ i = (i ≤ n) × (allFrom (test st s) 0 n ≡ allFrom (test st s) i (n - i))
 
 abbrev μ-loop : tie.MeasureT-loop
 μ-loop s st n i₀ i = n - i
 
 -- the rule, by the number that the code has
-asked : (st : Station) (s n : ℕ) → n ≡ turnoutCount st → splits st s ≡ not (allFrom (test n st s) 0 n)
-unfolding splits tied
+asked : (st : Station) (s n : ℕ) → n ≡ turnoutCount st → splits st s ≡ not (allFrom (test st s) 0 n)
+unfolding splits
 asked st s n e = rw e
 
 -- what the test of a turn says
-tested : (c : tie.After-is-whole Inv-loop μ-loop) → c .is-whole .result ≡ test (c .before .before .before .before .before .turnout-count .result) (c .before .before .before .before .before .before .args .t1) (c .before .before .before .before .before .before .args .s) (c .before .before .before .before .loop .i)
-tested c = rw (c .is-whole .ensures, c .before .tied-with .ensures)
+tested :
+    (c : tie.After-is-whole Inv-loop μ-loop) →
+    c .is-whole .result
+    ≡ test (c .before .before .before .before .before .before .args .t1) (c .before .before .before .before .before .before .args .s)
+    (c .before .before .before .before .loop .i)
+unfolding tied
+tested c = rw (c .is-whole .ensures, c .before .tied-with .ensures, c .before .before .before .before .before .turnout-count .ensures)
 
 loop-holds : tie.Need-loop-holds Inv-loop μ-loop
 loop-holds c =
@@ -42,8 +47,8 @@ returns c =
     let a = c .before .before .before .before .before .before .before .args in
     let i = c .before .before .before .before .before .loop .i in
     let inv = c .before .before .before .before .before .loop .inv in
-    let fails : test n (a .t1) (a .s) i ≡ false = sym (tested (c .before)) ∙ not-true (c .before .is-whole .result) (c .if1 .taken) in
-    let all = inv .1 ∙ all-next (test n (a .t1) (a .s)) i n (c .before .before .before .before .loop-test .taken) in
+    let fails : test (a .t1) (a .s) i ≡ false = sym (tested (c .before)) ∙ not-true (c .before .is-whole .result) (c .if1 .taken) in
+    let all = inv .1 ∙ all-next (test (a .t1) (a .s)) i n (c .before .before .before .before .loop-test .taken) in
     sym (asked (a .t1) (a .s) n (c .before .before .before .before .before .before .turnout-count .ensures) ∙ rw (all, fails))
 
 loop-again : tie.Need-loop-again Inv-loop μ-loop
@@ -52,8 +57,8 @@ loop-again c =
     let a = c .before .before .before .before .before .before .before .args in
     let i = c .before .before .before .before .before .loop .i in
     let inv = c .before .before .before .before .before .loop .inv in
-    let passes : test n (a .t1) (a .s) i ≡ true = sym (tested (c .before)) ∙ not-false (c .before .is-whole .result) (c .if1 .left) in
-    (search needs, inv .1 ∙ all-next (test n (a .t1) (a .s)) i n (c .before .before .before .before .loop-test .taken) ∙ rw passes)
+    let passes : test (a .t1) (a .s) i ≡ true = sym (tested (c .before)) ∙ not-false (c .before .is-whole .result) (c .if1 .left) in
+    (search needs, inv .1 ∙ all-next (test (a .t1) (a .s)) i n (c .before .before .before .before .loop-test .taken) ∙ rw passes)
 
 returns-2 : tie.Need-returns-2 Inv-loop μ-loop
 returns-2 c =
@@ -62,7 +67,7 @@ returns-2 c =
     let i = c .before .loop .i in
     let inv = c .before .loop .inv in
     let ended : i ≡ n = omega arith in
-    let all = inv .1 ∙ ap (λ (k : ℕ). allFrom (test n (a .t1) (a .s)) k (n - k)) ended ∙ all-end (test n (a .t1) (a .s)) n in
+    let all = inv .1 ∙ ap (λ (k : ℕ). allFrom (test (a .t1) (a .s)) k (n - k)) ended ∙ all-end (test (a .t1) (a .s)) n in
     sym (asked (a .t1) (a .s) n (c .before .before .turnout-count .ensures) ∙ ap not all)
 
 pub splits-crossover-spec : {M : Type 1} → statement M

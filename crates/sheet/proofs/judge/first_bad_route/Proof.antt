@@ -9,25 +9,25 @@ use Rattle.sets.specs.Range.{allFrom, firstFrom}
 use Rattle.sets.proofs.Ranges.{all-next, all-end, first-next, first-end}
 use Rattle.station.specs.declared.Station.{Station}
 use Rattle.station.specs.declared.Route.{Route}
-use Rattle.station.specs.Station.{turnoutAt, routeAt, turnoutCount, routeCount, tied, tiedWith}
+use Rattle.station.specs.Station.{turnoutAt, routeAt, turnoutCount, routeCount, tied}
 use Rattle.sheet.specs.Sheet.{setsKept, memberKept, goodRoute, badRoute}
 use borrow.Author.Needs.{needs}
 use Rattle.sheet.proofs.judge.first_bad_route.Statement.{statement}
 use Rattle.sheet.proofs.judge.first_bad_route.Tie as tie
 
 -- turnout k is as the route r wants it
-abbrev test : ℕ → Station → Route → ℕ → Bool
-test p st r k = memberKept r k (turnoutAt st k) (tiedWith p k (turnoutAt st k .partner))
+abbrev test : Station → Route → ℕ → Bool
+test st r k = memberKept r k (turnoutAt st k) (tied st k)
 
 -- route i is bad, its sets being judged against m turnouts
 abbrev badFor : ℕ → ℕ → Station → ℕ → Bool
-badFor m p st i = not (setsKept m (routeAt st i) && allFrom (test p st (routeAt st i)) 0 p)
+badFor m p st i = not (setsKept m (routeAt st i) && allFrom (test st (routeAt st i)) 0 p)
 
 abbrev bad : ℕ → Station → ℕ → Bool
 bad p = badFor (min p 64) p
 
 abbrev Inv-loop : tie.InvT-loop
-Inv-loop st p n i r k₀ k = (k ≤ p) × (allFrom (test p st r) 0 p ≡ allFrom (test p st r) k (p - k))
+Inv-loop st p n i r k₀ k = (k ≤ p) × (allFrom (test st r) 0 p ≡ allFrom (test st r) k (p - k))
 
 abbrev μ-loop : tie.MeasureT-loop
 μ-loop st p n i r k₀ k = p - k
@@ -40,14 +40,18 @@ abbrev μ-routes : tie.MeasureT-routes
 
 -- the rule, by the numbers that the code has
 found : (st : Station) (p n : ℕ) → p ≡ turnoutCount st → n ≡ routeCount st → badRoute st ≡ firstFrom (bad p st) 0 n
-unfolding badRoute goodRoute tied
+unfolding badRoute goodRoute
 found st p n ep en =
     let limit : turnoutCount st ≡ min p 64 = omega arith in
     ap (λ (m : ℕ). firstFrom (badFor m (turnoutCount st) st) 0 (routeCount st)) limit ∙ rw (ep, en)
 
 -- what the test of a turnout says
-tested : (c : tie.After-member-kept Inv-loop μ-loop Inv-routes μ-routes) → c .member-kept .result ≡ test (c .before .before .before .before .before .before .before .before .before .before .before .turnout-count .result) (c .before .before .before .before .before .before .before .before .before .before .before .before .args .t1) (routeAt (c .before .before .before .before .before .before .before .before .before .before .before .before .args .t1) (c .before .before .before .before .before .before .before .before .before .routes .i)) (c .before .before .before .before .loop .k)
-tested c = rw (c .member-kept .ensures, c .before .tied-with .ensures)
+tested :
+    (c : tie.After-member-kept Inv-loop μ-loop Inv-routes μ-routes) →
+    c .member-kept .result
+    ≡ test (c .before .before .before .before .before .before .before .before .before .before .before .before .args .t1) (routeAt (c .before .before .before .before .before .before .before .before .before .before .before .before .args .t1) (c .before .before .before .before .before .before .before .before .before .routes .i)) (c .before .before .before .before .loop .k)
+unfolding tied
+tested c = rw (c .member-kept .ensures, c .before .tied-with .ensures, c .before .before .before .before .before .before .before .before .before .before .before .turnout-count .ensures)
 
 routes-holds : tie.Need-routes-holds Inv-loop μ-loop Inv-routes μ-routes
 routes-holds c =
@@ -65,8 +69,8 @@ loop-again c =
     let i = c .before .before .before .before .before .before .before .before .before .before .routes .i in
     let inv = c .before .before .before .before .before .before .before .before .before .before .routes .inv in
     let k = c .before .before .before .before .before .loop .k in
-    let passes : test p st (routeAt st i) k ≡ true = sym (tested (c .before)) ∙ not-false (c .before .member-kept .result) (c .if2 .left) in
-    (search needs, c .before .before .before .before .before .loop .inv .1 ∙ all-next (test p st (routeAt st i)) k p (c .before .before .before .before .loop-test .taken) ∙ rw passes)
+    let passes : test st (routeAt st i) k ≡ true = sym (tested (c .before)) ∙ not-false (c .before .member-kept .result) (c .if2 .left) in
+    (search needs, c .before .before .before .before .before .loop .inv .1 ∙ all-next (test st (routeAt st i)) k p (c .before .before .before .before .loop-test .taken) ∙ rw passes)
 
 routes-again : tie.Need-routes-again Inv-loop μ-loop Inv-routes μ-routes
 routes-again c =
@@ -78,7 +82,7 @@ routes-again c =
     let k = c .before .loop .k in
     let sets = sym (c .before .before .before .sets-kept .ensures) ∙ not-false (c .before .before .before .sets-kept .result) (c .before .before .if1 .left) in
     let ended : k ≡ p = omega arith in
-    let all = c .before .loop .inv .1 ∙ ap (λ (j : ℕ). allFrom (test p st (routeAt st i)) j (p - j)) ended ∙ all-end (test p st (routeAt st i)) p in
+    let all = c .before .loop .inv .1 ∙ ap (λ (j : ℕ). allFrom (test st (routeAt st i)) j (p - j)) ended ∙ all-end (test st (routeAt st i)) p in
     let good : bad p st i ≡ false = rw (sets, all) in
     (search needs, inv .1 ∙ first-next (bad p st) i n (c .before .before .before .before .before .routes-test .taken) ∙ rw good)
 
@@ -112,8 +116,8 @@ returns-3 c =
     let inv = c .before .before .before .before .before .before .before .before .before .before .routes .inv in
     let k = c .before .before .before .before .before .loop .k in
     let sets = sym (c .before .before .before .before .before .before .before .sets-kept .ensures) ∙ not-false (c .before .before .before .before .before .before .before .sets-kept .result) (c .before .before .before .before .before .before .if1 .left) in
-    let fails : test p st (routeAt st i) k ≡ false = sym (tested (c .before)) ∙ not-true (c .before .member-kept .result) (c .if2 .taken) in
-    let some = c .before .before .before .before .before .loop .inv .1 ∙ all-next (test p st (routeAt st i)) k p (c .before .before .before .before .loop-test .taken) in
+    let fails : test st (routeAt st i) k ≡ false = sym (tested (c .before)) ∙ not-true (c .before .member-kept .result) (c .if2 .taken) in
+    let some = c .before .before .before .before .before .loop .inv .1 ∙ all-next (test st (routeAt st i)) k p (c .before .before .before .before .loop-test .taken) in
     let now-bad : bad p st i ≡ true = rw (sets, some, fails) in
     sym (found st p n (c .before .before .before .before .before .before .before .before .before .before .before .before .turnout-count .ensures) (c .before .before .before .before .before .before .before .before .before .before .before .route-count .ensures) ∙ inv .1 ∙ first-next (bad p st) i n (c .before .before .before .before .before .before .before .before .before .routes-test .taken) ∙ rw now-bad)
 

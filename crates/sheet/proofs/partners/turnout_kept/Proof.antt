@@ -1,7 +1,7 @@
--- `sheet::judge::turnout_kept` meets its contract: the rule, from what each call ensures. Assumes nothing.
+-- `sheet::partners::turnout_kept` meets its contract: the rule, from what each call ensures. Assumes nothing.
 use borrow.Author.Needs.{needs}
-use Rattle.sheet.proofs.judge.turnout_kept.Statement.{statement}
-use Rattle.sheet.proofs.judge.turnout_kept.Tie as tie
+use Rattle.sheet.proofs.partners.turnout_kept.Statement.{statement}
+use Rattle.sheet.proofs.partners.turnout_kept.Tie as tie
 
 returns : tie.Need-returns
 returns c =

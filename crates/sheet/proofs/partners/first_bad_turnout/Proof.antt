@@ -1,4 +1,4 @@
--- `sheet::judge::first_bad_turnout` meets its contract: the invariant says that what is still to be found is the answer. Assumes nothing.
+-- `sheet::partners::first_bad_turnout` meets its contract: the invariant says that what is still to be found is the answer. Assumes nothing.
 use native.Mathlib.Nat.{sub-zero}
 use native.Mathlib.Omega.{arith}
 use Rattle.sets.proofs.Ranges.{first-next, first-end}
@@ -9,12 +9,12 @@ use mathlib.Core.Bool.{Bool, true, false, not}
 use mathlib.Core.List.{List}
 use lib.ListN.{getD}
 use Rattle.sets.specs.Range.{firstFrom}
-use Rattle.sheet.specs.Sheet.{turnoutKept, goodTurnout, badTurnout}
+use Rattle.sheet.specs.Partners.{turnoutKept, goodTurnout, badTurnout}
 use Rattle.station.specs.Station.{emptyTurnout, turnoutCount, zoneCount}
 use Rattle.station.specs.declared.Turnout.{Turnout}
 use borrow.Author.Needs.{needs}
-use Rattle.sheet.proofs.judge.first_bad_turnout.Statement.{statement}
-use Rattle.sheet.proofs.judge.first_bad_turnout.Tie as tie
+use Rattle.sheet.proofs.partners.first_bad_turnout.Statement.{statement}
+use Rattle.sheet.proofs.partners.first_bad_turnout.Tie as tie
 
 -- turnout n of the records ts is bad
 abbrev bad : ℕ → ℕ → List Turnout → ℕ → Bool

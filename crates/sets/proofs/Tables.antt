@@ -12,15 +12,15 @@ use borrow.Author.Tests.{eqb-true, eqb-false, lt-ltb, le-ltb, ltb-true, ltb-fals
 use lib.Dec.{eqb, ltb}
 use lib.ListN.{length, getD, set, replicate, length-set, List·getD-eq-default}
 use lib.Seq.{ext-getD, getD-set-same, getD-set-other}
-use Rattle.layout.specs.Layout.{valuesFrom, places}
+use Rattle.sets.specs.Table.{valuesFrom, places}
 
 module _ {A : Type 0} where
-  length-values : (f : ℕ → A) (i k : ℕ) → length (valuesFrom f i k) ≡ k
+  pub length-values : (f : ℕ → A) (i k : ℕ) → length (valuesFrom f i k) ≡ k
   unfolding valuesFrom
   length-values f i zero = refl
   length-values f i (suc k) = ap suc (length-values f (i + 1) k)
 
-  getD-values : (f : ℕ → A) (i k j : ℕ) (e : A) → j < k → getD (valuesFrom f i k) j e ≡ f (i + j)
+  pub getD-values : (f : ℕ → A) (i k j : ℕ) (e : A) → j < k → getD (valuesFrom f i k) j e ≡ f (i + j)
   unfolding valuesFrom
   getD-values f i zero j e h = absurd (not-suc-le-zero h)
   getD-values f i (suc k) zero e h = ap f (sym (add-zero i))

@@ -1,7 +1,14 @@
 // The tests of document 01's table of kinds that look at more than one thing. The rules are in the crate zone, specs/Kinds.antt.
 ghost use mathlib.Core.Path.{_≡_};
-ghost use Rattle.zone.specs.Kinds.{noWorkUnder, noMovementUnder, badRequest, badDetection, badRoute, badPart, inTheWay, clearedAmong, deviceUnderVerbal, isCleared, notWorked, misfits, orderForbidden};
+ghost use Rattle.zone.specs.Kinds.{noWorkUnder, noMovementUnder, badRequest, badDetection, badRoute, badPart, inTheWay, clearedAmong, deviceUnderVerbal, isCleared, orderForbidden};
+ghost use mathlib.Core.Bool.{not};
+ghost use lib.Bits.{bitAnd};
+ghost use Rattle.sets.specs.Sets.{has};
+ghost use Rattle.station.specs.Station.{namedBy};
+ghost use Rattle.zone.specs.Clearance.{clearanceFits};
+ghost use Rattle.zone.specs.Work.{agreedSet};
 use message::Message;
+use station::Route;
 use station::Station;
 use zone::Movement;
 use zone::Work;
@@ -11,11 +18,10 @@ use zone::movements::cleared_set;
 use zone::movements::is_standing;
 use zone::movements::order_refused;
 use zone::movements::regime;
-use zone::movements::route_for;
-use zone::movements::worked_turnouts;
 use zone::trains::cleared_standing;
 use zone::trains::movement_under;
 use zone::trains::named_standing;
+use zone::works::agreed_set;
 use zone::works::manner_of;
 use zone::works::under_form;
 
@@ -97,17 +103,17 @@ pub fn is_cleared(v: Movement, n: u8) -> bool
 }
 
 // 17 of a clearance: the turnout is not under agreed work or not named.
-pub fn not_worked(st: Station, w: Work, v: Movement, n: u8) -> bool
-    ensures { λ r. ⌜ r ≡ notWorked st w v n ⌝ }
+pub fn not_worked(r: Route, w: Work, n: u8) -> bool
+    ensures { λ b. ⌜ b ≡ not (has (bitAnd (namedBy r) (agreedSet w)) n) ⌝ }
 {
-    !sets::contains(worked_turnouts(st, w, v), n as usize)
+    !sets::contains(station::names(r) & agreed_set(w), n as usize)
 }
 
 // 20: the clearance does not fit its turnout.
-pub fn misfit(st: Station, v: Movement, m: Message) -> bool
-    ensures { λ r. ⌜ r ≡ misfits st v m ⌝ }
+pub fn misfit(st: Station, r: Route, m: Message) -> bool
+    ensures { λ b. ⌜ b ≡ not (clearanceFits st r m) ⌝ }
 {
-    !clearance_fits(st, route_for(st, v), m)
+    !clearance_fits(st, r, m)
 }
 
 // 22 of an order: the regime forbids it.

@@ -15,6 +15,7 @@ use station::first_code;
 use zone::Zone;
 use zone::clearances::medium_fits;
 use zone::movements::is_ordered;
+use zone::movements::route_for;
 use zone::trains::movement_under;
 use zone::trains::no_place;
 use zone::works::has_work;
@@ -78,9 +79,10 @@ pub fn clearance(st: Station, z: Zone, m: Message) -> u8
 {
     let w = z.work;
     let v = movement_under(z, m.id);
+    let r = route_for(st, v);
     let medium = first_code(!medium_fits(z.recorder, m.d4), WRONG_MEDIUM, 0);
-    let fit = first_code(checks::misfit(st, v, m), CLEARANCE_DOES_NOT_FIT, medium);
-    let turnout = first_code(checks::not_worked(st, w, v, m.d0), BAD_TURNOUTS, fit);
+    let fit = first_code(checks::misfit(st, r, m), CLEARANCE_DOES_NOT_FIT, medium);
+    let turnout = first_code(checks::not_worked(r, w, m.d0), BAD_TURNOUTS, fit);
     let again = first_code(checks::is_cleared(v, m.d0), ALREADY_THERE, turnout);
     first_code(checks::no_movement_under(z, m), NOT_UNDER_THIS_ID, again)
 }

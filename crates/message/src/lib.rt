@@ -88,12 +88,11 @@ pub fn read_record(s: &[u8]) -> Reading
     if s.len() != RECORD {
         return Reading::Refused(NOT_A_RECORD);
     }
-    let m = layout::decode(s);
-    let code = field_code(m);
+    let code = field_code(layout::decode(s));
     if code != 0 {
         return Reading::Refused(code);
     }
-    Reading::Accepted(m)
+    Reading::Accepted(layout::decode(s))
 }
 
 // The number of a reading: 0 if it was accepted, else the one that refuses it.

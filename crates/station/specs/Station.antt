@@ -1,6 +1,7 @@
 -- What a station says of its turnouts, routes and zones, for every station value. Document 01, 'Conditions of acceptance':
 -- "a count over its limit is read as the limit, a partner not below P as none, a stored route not below R names nothing".
 use mathlib.Core.Bool.{Bool, cond, not, _||_}
+use mathlib.Core.List.{List}
 use Prim.Native.Nat.{ℕ, min}
 use lib.Dec.{eqb, ltb}
 use lib.ListN.{getD, replicate}
@@ -57,9 +58,12 @@ driveOf st n = turnoutAt st n .drive
 unfoldable pub tiedWith : ℕ → ℕ → ℕ → ℕ
 tiedWith p n partner = union (single n) (cond (ltb partner p) (single partner) 0)
 
+-- the same, out of the records ts of p turnouts
+abbrev pub tiedAmong : ℕ → List Turnout → ℕ → ℕ
+tiedAmong p ts n = tiedWith p n (getD ts n emptyTurnout .partner)
+
 unfoldable pub tied : Station → ℕ → ℕ
-unfolding tiedWith
-tied st n = tiedWith (turnoutCount st) n (turnoutAt st n .partner)
+tied st n = tiedAmong (turnoutCount st) (st .turnout) n
 
 -- the turnouts of a zone
 unfoldable pub zoneTurnouts : Station → ℕ → ℕ

@@ -107,10 +107,11 @@ pub fn turnouts_of_zone(st: Station, z: u8) -> u64
     ensures { λ r. ⌜ r ≡ zoneTurnouts st z ⌝ }
 {
     let n = turnout_count(st);
+    let ts = st.turnout;
     let mut found: u64 = 0;
     let mut i: usize = 0;
     while i < n {
-        let t = st.turnout[i];
+        let t = ts[i];
         found = observe::with_turnout(found, i, t.zone == z);
         i += 1;
     }
@@ -135,8 +136,9 @@ pub fn first_code(test: bool, code: u8, rest: u8) -> u8
 pub fn route_of(st: Station, n: usize) -> Route
     ensures { λ r. ⌜ r ≡ theRoute st n ⌝ }
 {
+    let rs = st.route;
     if n < route_count(st) {
-        return st.route[n];
+        return rs[n];
     }
     observe::no_route()
 }
@@ -153,9 +155,10 @@ pub fn splits_crossover(st: Station, s: u64) -> bool
     ensures { λ r. ⌜ r ≡ splits st s ⌝ }
 {
     let n = turnout_count(st);
+    let ts = st.turnout;
     let mut i: usize = 0;
     while i < n {
-        let t = st.turnout[i];
+        let t = ts[i];
         if !observe::is_whole(observe::tied_with(n, i, t.partner), s) {
             return true;
         }

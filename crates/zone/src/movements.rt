@@ -126,10 +126,11 @@ pub fn lacking_clearance(st: Station, w: Work, v: Movement) -> u64
 pub fn regime(st: Station, w: Work, v: Movement) -> Regime
     ensures { λ r. ⌜ r ≡ regimeOf st w v ⌝ }
 {
-    if !sets::is_empty(lacking_clearance(st, w, v)) {
+    let worked = worked_turnouts(st, w, v);
+    if !sets::is_empty(sets::minus(worked, cleared_set(v))) {
         return Regime::Held;
     }
-    if sets::is_within(worked_turnouts(st, w, v), efficient_set(v)) {
+    if sets::is_within(worked, efficient_set(v)) {
         return Regime::Clear;
     }
     Regime::Danger

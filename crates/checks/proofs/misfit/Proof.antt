@@ -5,10 +5,7 @@ use Rattle.checks.proofs.misfit.Tie as tie
 
 returns : tie.Need-returns
 returns c =
-    rw (
-      c .clearance-fits .ensures,
-      c .before .route-for .ensures,
-    )
+    rw (c .clearance-fits .ensures)
 
 pub misfit-spec : {M : Type 1} → statement M
-misfit-spec = tie.close (tie.spec (λ c κs. search needs) (λ c κs. search needs) returns)
+misfit-spec = tie.close (tie.spec (λ c κs. search needs) returns)

@@ -1,3 +1,3 @@
+pub mod Constants
 pub mod Entries
 pub mod Verdicts
-pub mod Words

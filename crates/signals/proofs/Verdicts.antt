@@ -1,54 +1,29 @@
--- The table of verdicts holds the rule: one test at each of its entries, which antt computes, and what follows at the place of a
--- line, a signal and flags in range.
-use mathlib.Core.Path.{_≡_, _∙_, refl}
-use mathlib.Core.Bool.{Bool, true, false, cond, _&&_, and-eq-true-iff}
-use mathlib.Core.List.{List}
-use Prim.Native.Nat.{ℕ, _+_, _-_, _*_, _/_, _%_, _<_, _≤_}
+-- Laws of the rule: it gives one of the six verdicts, and a place tells its line, signal and flags.
+use mathlib.Core.Path.{_≡_}
+use mathlib.Core.Bool.{Bool, true, false, cond}
+use Prim.Native.Nat.{ℕ, _+_, _/_, _%_, _<_, _≤_}
 use native.Mathlib.Omega.{arith}
-use lib.Dec.{eqb}
-use lib.ListN.{length, getD}
-use borrow.Author.Tests.{eqb-true, le-leb}
-use Rattle.signals.specs.Signals.{verdictRule, inRange}
-use Rattle.signals.specs.Table.{verdictOf}
-use Rattle.signals.proofs.Entries.{every, at}
+use lib.Dec.{lit≤}
+use borrow.Author.Tests.{le-leb}
+use Rattle.signals.specs.Signals.{verdictRule, darkVerdict, inRange, place}
 
--- document 01: "a table of 1,152 entries at ((line - 1) x 6 + signal) x 64 + flags"
-abbrev place : ℕ → ℕ → ℕ → ℕ
-place line signal flags = ((line - 1) * 6 + signal) * 64 + flags
+-- one of document 01's verdicts
+abbrev pub Known : ℕ → Type 0
+Known n = (1 ≤ n) × (n ≤ 6)
+
+-- a choice between two of them is one of them
+chosen : (b : Bool) (m n : ℕ) → Known m → Known n → Known (cond b m n)
+chosen true m n p q = p
+chosen false m n p q = q
+
+-- the rule gives one of them
+pub known : (line signal flags : ℕ) → Known (verdictRule line signal flags)
+unfolding verdictRule darkVerdict
+known line signal flags = search (chosen, lit≤) depth 12
 
 -- the rule's verdict for the line, the signal and the flags whose place is k
-abbrev ruleAt : ℕ → ℕ
+abbrev pub ruleAt : ℕ → ℕ
 ruleAt k = verdictRule (k / 384 + 1) (k / 64 % 6) (k % 64)
-
--- the test of one entry: x at place k is the rule's verdict, and stands for itself, which is to say that it is one of 1 to 6
-unfoldable right : ℕ → ℕ → Bool
-unfolding verdictRule
-right k x = eqb x (ruleAt k) && eqb (verdictOf x) x
-
--- the test of the whole table
-unfoldable pub holdsRule : List ℕ → Bool
-unfolding right
-holdsRule xs = eqb (length xs) 1152 && every right 0 xs
-
--- an equation that a test gives, in a form that needs no proof of the test: the right side computes where the test does
-by-test : (b : Bool) (m n : ℕ) → (b ≡ true → m ≡ n) → m ≡ cond b n m
-by-test true m n given = given refl
-by-test false m n given = refl
-
--- the entry at a place stands for the rule's verdict there, in a table that passes the test
-at-place : (xs : List ℕ) → holdsRule xs ≡ true → (k : ℕ) → k < 1152 → verdictOf (getD xs k 0) ≡ ruleAt k
-unfolding holdsRule right
-at-place xs passed k below =
-    let x : ℕ = getD xs k 0 in
-    let whole = and-eq-true-iff (eqb (length xs) 1152) (every right 0 xs) .0 passed in
-    let long : length xs ≡ 1152 = eqb-true (length xs) 1152 (whole .0) in
-    let here = and-eq-true-iff (eqb x (ruleAt k)) (eqb (verdictOf x) x) .0 (at right xs (whole .1) k (omega arith)) in
-    eqb-true (verdictOf x) x (here .1) ∙ eqb-true x (ruleAt k) (here .0)
-
--- the same for a table that stands in a goal, where the test computes
-pub entry :
-    (k : ℕ) → k < 1152 → (xs : List ℕ) → verdictOf (getD xs k 0) ≡ cond (holdsRule xs) (ruleAt k) (verdictOf (getD xs k 0))
-entry k below xs = by-test (holdsRule xs) _ _ (λ passed. at-place xs passed k below)
 
 -- a line, a signal and flags in range
 pub record InRange (line signal flags : ℕ) : Type 0 where

@@ -1,3 +1,2 @@
 pub mod Signals
 pub mod Answer
-pub mod Table

@@ -1,6 +1,6 @@
 -- Document 01, 'Works on signals' (Art. 3.5, 3.6, 3.13): which works on a signal are allowed, as a rule on line, signal and flags.
 use mathlib.Core.Bool.{Bool, cond, not, _&&_, _||_}
-use Prim.Native.Nat.{ℕ, _/_, _%_}
+use Prim.Native.Nat.{ℕ, _+_, _-_, _*_, _/_, _%_}
 use lib.Dec.{eqb, leb}
 
 -- "Flags: 1 can be held at danger, 2 day, 4 SSC (driver support) fitted, 8 its danger message ensured, 16 auxiliary lights
@@ -56,3 +56,7 @@ verdictRule line signal flags =
 -- "33: line, signal or flags (above 63) out of range": lines are 1 to 3, signals 0 to 5
 unfoldable pub inRange : ℕ → ℕ → ℕ → Bool
 inRange line signal flags = leb 1 line && leb line 3 && leb signal 5 && leb flags 63
+
+-- "The verdicts are held as a table of 1,152 entries at ((line - 1) × 6 + signal) × 64 + flags."
+abbrev pub place : ℕ → ℕ → ℕ → ℕ
+place line signal flags = ((line - 1) * 6 + signal) * 64 + flags

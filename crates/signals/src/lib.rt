@@ -1,10 +1,16 @@
-// Works on signals (document 01, Art. 3.5, 3.6, 3.13): which works are allowed on a signal, from the kind of line, the signal
-// and what is known of it. The verdicts are a constant table; the rule that it holds is in specs/Signals.antt.
+// Works on signals (document 01, Art. 3.5, 3.6, 3.13): which works are allowed on a signal, from the
+// kind of line, the signal and what is known of it. The verdicts are a constant table; the rule that
+// it holds is in specs/Signals.antt.
 ghost use mathlib.Core.Path.{_≡_};
+ghost use Prim.Native.Nat.{_≤_};
 ghost use Rattle.signals.specs.Answer.{answerOf, judged, numberOf};
-ghost use Rattle.signals.specs.Table.{verdictOf};
 
 mod table;
+
+use table::VERDICTS;
+
+// Document 01's code of an answer to a line, a signal or flags out of range.
+pub const OUT_OF_RANGE: u8 = 33;
 
 // Document 01's verdicts 1 to 6.
 pub enum Verdict {
@@ -16,7 +22,7 @@ pub enum Verdict {
     NoSuchSignal,
 }
 
-// What the call answers: a verdict, or that line, signal or flags are out of range (33).
+// What the call answers: a verdict, or that line, signal or flags are out of range.
 pub enum Ruling {
     Given(Verdict),
     OutOfRange,
@@ -30,12 +36,14 @@ pub fn judge(line: u8, signal: u8, flags: u8) -> Ruling
         return Ruling::OutOfRange;
     }
     let at = ((line as usize - 1) * 6 + signal as usize) * 64 + flags as usize;
-    Ruling::Given(verdict_of(table::held(at)))
+    Ruling::Given(verdict_of(VERDICTS[at]))
 }
 
-// The verdict that an entry of the table stands for.
+// The verdict that has a number of document 01.
 fn verdict_of(n: u8) -> Verdict
-    ensures { λ r. ⌜ numberOf r ≡ verdictOf n ⌝ }
+    requires { ⌜ 1 ≤ n ⌝ }
+    requires { ⌜ n ≤ 6 ⌝ }
+    ensures { λ r. ⌜ numberOf r ≡ n ⌝ }
 {
     match n {
         1 => Verdict::AtDanger,
@@ -53,7 +61,7 @@ pub fn ruling_code(ruling: Ruling) -> u8
 {
     match ruling {
         Ruling::Given(_) => 0,
-        Ruling::OutOfRange => 33,
+        Ruling::OutOfRange => OUT_OF_RANGE,
     }
 }
 

@@ -1,24 +1,29 @@
 // The twelve kinds of message over one zone (document 01's table of kinds): each is its checks, in the written order, and its
-// effect. The rules are in the crate zone, specs/Kinds.antt.
+// effect. The rules are in the crate `rules`, specs/Kinds.antt.
 ghost use mathlib.Core.Path.{_≡_};
-ghost use Rattle.zone.specs.Kinds.{answered, heard, withWork, atTime};
+ghost use Rattle.rules.specs.Kinds.{answered, heard};
 
 mod codes;
 
 use message::Message;
+use rules::clearances::is_efficient;
 use station::Station;
 use zone::Answer;
 use zone::Movement;
 use zone::Work;
 use zone::Zone;
-use zone::clearances::is_efficient;
+use zone::at_time;
 use zone::movements::cleared_at;
 use zone::movements::movement_for;
 use zone::movements::ordered_as;
+use zone::refused_in;
 use zone::settle;
 use zone::trains::changed_under;
 use zone::trains::movement_under;
 use zone::trains::with_movement;
+use zone::with_recorder;
+use zone::with_work;
+use zone::work_of;
 use zone::works::agreed_at;
 use zone::works::agreed_from;
 use zone::works::asked_for;
@@ -46,20 +51,6 @@ pub const WRONG_MEDIUM: u8 = 21;
 
 pub const FORBIDDEN: u8 = 22;
 
-// The zone with other work, at a time.
-fn with_work(z: Zone, w: Work, time: u32) -> Zone
-    ensures { λ r. ⌜ r ≡ withWork z w time ⌝ }
-{
-    Zone { work: w, time, ..z }
-}
-
-// The zone at a time.
-fn at_time(z: Zone, time: u32) -> Zone
-    ensures { λ r. ⌜ r ≡ atTime z time ⌝ }
-{
-    Zone { time, ..z }
-}
-
 fn work_asked(st: Station, z: Zone, m: Message) -> Answer
     ensures { λ r. ⌜ r ≡ answered 1 st z m ⌝ }
 {
@@ -70,7 +61,7 @@ fn work_asked(st: Station, z: Zone, m: Message) -> Answer
 fn agreed(st: Station, z: Zone, m: Message) -> Answer
     ensures { λ r. ⌜ r ≡ answered 2 st z m ⌝ }
 {
-    let w = z.work;
+    let w = work_of(z);
     let next = with_work(z, agreed_from(w, m.time), m.time);
     settle(z, codes::agreed(st, z, m), 0, next)
 }
@@ -85,7 +76,7 @@ fn withdrawn(st: Station, z: Zone, m: Message) -> Answer
 fn detection_off(st: Station, z: Zone, m: Message) -> Answer
     ensures { λ r. ⌜ r ≡ answered 4 st z m ⌝ }
 {
-    let w = z.work;
+    let w = work_of(z);
     let next = with_work(z, opened_to(w, sets::join(m.a, m.b)), m.time);
     settle(z, codes::detection_off(st, z, m), 0, next)
 }
@@ -100,7 +91,7 @@ fn movement_asked(st: Station, z: Zone, m: Message) -> Answer
 fn clearance(st: Station, z: Zone, m: Message) -> Answer
     ensures { λ r. ⌜ r ≡ answered 6 st z m ⌝ }
 {
-    let w = z.work;
+    let w = work_of(z);
     let v = movement_under(z, m.id);
     let y = changed_under(z, m.id, cleared_at(v, m.d0, is_efficient(m.d1)));
     let next = with_work(y, shut_to(w, sets::only(m.d0 as usize)), m.time);
@@ -132,7 +123,7 @@ fn cancelled(st: Station, z: Zone, m: Message) -> Answer
 fn part_restored(st: Station, z: Zone, m: Message) -> Answer
     ensures { λ r. ⌜ r ≡ answered 10 st z m ⌝ }
 {
-    let w = z.work;
+    let w = work_of(z);
     let next = with_work(z, restored_of(w, m.a), m.time);
     settle(z, codes::part_restored(st, z, m), 0, next)
 }
@@ -140,7 +131,7 @@ fn part_restored(st: Station, z: Zone, m: Message) -> Answer
 fn all_restored(st: Station, z: Zone, m: Message) -> Answer
     ensures { λ r. ⌜ r ≡ answered 11 st z m ⌝ }
 {
-    let w = z.work;
+    let w = work_of(z);
     let next = with_work(z, Work::NoWork, m.time);
     settle(
         z,
@@ -156,31 +147,14 @@ fn recorder(st: Station, z: Zone, m: Message) -> Answer
     Answer {
         code: 0,
         minutes: 0,
-        zone: Zone {
-            recorder: m.d0 == 1,
-            time: m.time,
-            ..z
-        },
+        zone: with_recorder(z, m.d0 == 1, m.time),
     }
 }
 
-fn refused(z: Zone, code: u8) -> Answer
-    ensures { λ r. ⌜ r ≡ record { code = code; minutes = 0; zone = z } ⌝ }
+// A message heard by its zone once 14 is past: the checks and the effect of its kind.
+fn hear_kind(st: Station, z: Zone, m: Message) -> Answer
+    ensures { λ r. ⌜ r ≡ answered (m .kind) st z m ⌝ }
 {
-    Answer {
-        code,
-        minutes: 0,
-        zone: z,
-    }
-}
-
-// A message heard by its zone: 14, then the checks and the effect of its kind.
-pub fn hear(st: Station, z: Zone, m: Message) -> Answer
-    ensures { λ r. ⌜ r ≡ heard st z m ⌝ }
-{
-    if m.time < z.time {
-        return refused(z, TOO_EARLY);
-    }
     let kind = m.kind;
     match kind {
         message::WORK_ASKED => work_asked(st, z, m),
@@ -195,6 +169,16 @@ pub fn hear(st: Station, z: Zone, m: Message) -> Answer
         message::PART_RESTORED => part_restored(st, z, m),
         message::ALL_RESTORED => all_restored(st, z, m),
         message::RECORDER => recorder(st, z, m),
-        _ => refused(z, message::BAD_KIND),
+        _ => refused_in(z, message::BAD_KIND),
     }
+}
+
+// A message heard by its zone: 14, then the checks and the effect of its kind.
+pub fn hear(st: Station, z: Zone, m: Message) -> Answer
+    ensures { λ r. ⌜ r ≡ heard st z m ⌝ }
+{
+    if m.time < z.time {
+        return refused_in(z, TOO_EARLY);
+    }
+    hear_kind(st, z, m)
 }

@@ -1,25 +1,32 @@
--- A case principle over the kinds: what holds at 0, at each kind 1 to 12 and from 13 on holds at every number.
--- Assumes nothing.
-use Prim.Native.Nat.{ℕ, zero, suc, _<_}
+-- A case principle over the kinds: what holds at each number up to 12, and from 13 on, holds at every number.
+use mathlib.Core.List.{List, [], _∷_}
+use mathlib.Core.Path.{_≡_}
+use Prim.Native.Nat.{ℕ, zero, suc, _≤_}
 use native.Mathlib.Omega.{arith}
 
-split : (P : ℕ → Type 0) → P 0 → ((k : ℕ) → P (suc k)) → (k : ℕ) → P k
-split P z s zero = z
-split P z s (suc k) = s k
+-- P at each number below n
+abbrev pub EachBelow : ℕ → (ℕ → Type 0) → Type 0
+EachBelow zero P = Unit {0}
+EachBelow (suc n) P = P 0 × EachBelow n (λ k. P (suc k))
 
-pub each-kind : (P : ℕ → Type 0) → P 0 → P 1 → P 2 → P 3 → P 4 → P 5 → P 6 → P 7 → P 8 → P 9 → P 10 → P 11 → P 12 → ((k : ℕ) → 12 < k → P k) → (k : ℕ) → P k
-each-kind P p0 p1 p2 p3 p4 p5 p6 p7 p8 p9 p10 p11 p12 rest =
-    split P p0
-    (split (λ k. P (suc k)) p1
-    (split (λ k. P (suc (suc k))) p2
-    (split (λ k. P (suc (suc (suc k)))) p3
-    (split (λ k. P (suc (suc (suc (suc k))))) p4
-    (split (λ k. P (suc (suc (suc (suc (suc k)))))) p5
-    (split (λ k. P (suc (suc (suc (suc (suc (suc k))))))) p6
-    (split (λ k. P (suc (suc (suc (suc (suc (suc (suc k)))))))) p7
-    (split (λ k. P (suc (suc (suc (suc (suc (suc (suc (suc k))))))))) p8
-    (split (λ k. P (suc (suc (suc (suc (suc (suc (suc (suc (suc k)))))))))) p9
-    (split (λ k. P (suc (suc (suc (suc (suc (suc (suc (suc (suc (suc k))))))))))) p10
-    (split (λ k. P (suc (suc (suc (suc (suc (suc (suc (suc (suc (suc (suc k)))))))))))) p11
-    (split (λ k. P (suc (suc (suc (suc (suc (suc (suc (suc (suc (suc (suc (suc k))))))))))))) p12
-    (λ k. rest (suc (suc (suc (suc (suc (suc (suc (suc (suc (suc (suc (suc (suc k))))))))))))) (omega arith))))))))))))))
+-- one case and those after it
+infixr 5 _also_
+abbrev pub _also_ : {A B : Type 0} → A → B → A × B
+a also b = (a, b)
+
+each-below : (n : ℕ) (P : ℕ → Type 0) → EachBelow n P → ((k : ℕ) → n ≤ k → P k) → (k : ℕ) → P k
+each-below zero P each past k = past k (omega arith)
+each-below (suc n) P each past zero = each .0
+each-below (suc n) P each past (suc k) = each-below n (λ j. P (suc j)) (each .1) (λ j after. past (suc j) (omega arith)) k
+
+-- P at 0 and at each of the twelve kinds, a line each
+abbrev pub EachKind : (ℕ → Type 0) → Type 0
+EachKind P = EachBelow 13 P
+
+pub each-kind : (P : ℕ → Type 0) → EachKind P → ((k : ℕ) → 13 ≤ k → P k) → (k : ℕ) → P k
+each-kind P = each-below 13 P
+
+-- k is none of the given numbers; a match's last arm has this of the arms before it, the last of them first
+abbrev pub NoneOf : ℕ → List ℕ → Type 0
+NoneOf k [] = Unit {0}
+NoneOf k (x ∷ xs) = NoneOf k xs × (k ≡ x → ⊥)

@@ -1,7 +1,6 @@
 -- Both round trips of a record, for all inputs: an accepted record, read and written again, gives the same 32 bytes; a message
 -- that keeps the field rules, written and read again, gives the same message. The only other hypotheses are that the numbers
 -- are of their machine types and the buffer is one that a record fits.
--- Assumes nothing.
 use mathlib.Core.Path.{_≡_, refl, sym, ap, _∙_}
 use mathlib.Core.Bool.{Bool, true, false}
 use mathlib.Core.List.{List, [], _++_, _∷_, append-nil}
@@ -12,9 +11,9 @@ use lib.Dec.{eqb}
 use lib.ListN.{length, getD, drop}
 use lib.Seq.{sets, sets-eq, drop-length}
 use borrow.Author.Tests.{eq-eqb, eqb-true}
-use Rattle.bigendian.proofs.Numbers.{Bytes, value-bytes}
+use Rattle.bigendian.proofs.Numbers.{value-bytes}
 use Rattle.bigendian.proofs.Places.{bytesAt-all, bytes-number}
-use Rattle.bigendian.specs.BigEndian.{bytesAt}
+use Rattle.bigendian.specs.BigEndian.{Bytes, bytesAt}
 use Rattle.message.specs.declared.Message.{Message}
 use Rattle.message.specs.Fields.{details, fieldNumber}
 use Rattle.message.specs.Record.{decoded, encoded, headBytes, emptyMessage, ReadAnswer, accepted, refused, readRecord, written}

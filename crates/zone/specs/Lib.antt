@@ -1,5 +1,4 @@
 pub mod Work
 pub mod Movement
 pub mod Trains
-pub mod Clearance
-pub mod Kinds
+pub mod Zone

@@ -1,4 +1,5 @@
--- The movement of a zone: none, or one that stands; what it says, and what the kinds do to it. Nothing else looks into a movement.
+-- A movement: none, or one that stands; what it says, and what the kinds do to it. Nothing else but its encoding in bytes looks into a
+-- movement.
 use mathlib.Core.Bool.{Bool, true, false, cond, not, _&&_}
 use Prim.Native.Nat.{ℕ}
 use lib.Dec.{eqb}
@@ -7,7 +8,6 @@ use Rattle.sets.specs.Sets.{union, without, within, isEmpty, single}
 use Rattle.station.specs.declared.Station.{Station}
 use Rattle.station.specs.declared.Route.{Route}
 use Rattle.station.specs.Station.{emptyRoute, theRoute, namedBy}
-use Rattle.zone.specs.declared.Passage.{Passage}
 use Rattle.zone.specs.declared.Movement.{Movement}
 use Rattle.zone.specs.declared.Movement.the-variants.{NoMovement, Standing}
 use Rattle.zone.specs.declared.Regime.{Regime}

@@ -1,5 +1,5 @@
--- The movements of a zone, as the kinds, the questions and the history see them: by train. A zone has one place for a movement; only this
--- file, its laws and its code know that.
+-- The movements of a zone, by train: what the rules, the kinds and the questions ask of them. Document 01 has "one movement" in a zone; of
+-- the rules only these definitions know that there is one place.
 use mathlib.Core.Bool.{Bool, cond}
 use Prim.Native.Nat.{ℕ}
 use Rattle.station.specs.declared.Station.{Station}
@@ -12,7 +12,7 @@ use Rattle.zone.specs.Movement.{isStanding, underTrain, clearedSet, name
 unfoldable pub movementUnder : Zone → ℕ → Movement
 movementUnder z train = cond (underTrain (z .movement) train) (z .movement) NoMovement
 
--- 16 of kind 5: "movement in zone"
+-- 16 of kind 5, "movement in zone": one more movement finds no place
 unfoldable pub noPlace : Zone → Bool
 noPlace z = isStanding (z .movement)
 
@@ -24,16 +24,18 @@ namedStanding st z = namedTurnouts st (z .movement)
 unfoldable pub clearedStanding : Zone → ℕ
 clearedStanding z = clearedSet (z .movement)
 
--- 5: one more movement, where there is a place for it
+-- what the place holds once a movement is asked for: that one, unless one stands
 unfoldable pub placed : Movement → Movement → Movement
 placed u v = cond (isStanding u) u v
 
+-- 5: the zone with one more movement, where there is a place for it
 abbrev pub withMovement : Zone → Movement → Zone
 withMovement z v = record { work = z .work; movement = placed (z .movement) v; recorder = z .recorder; time = z .time }
 
--- 6 to 9: another movement, or none, in the place of the one under this train
+-- what the place holds once the movement under this train becomes another, or none
 unfoldable pub changed : Movement → ℕ → Movement → Movement
 changed u train v = cond (underTrain u train) v u
 
+-- 6 to 9: the zone with another movement, or none, in the place of the one under this train
 abbrev pub changedUnder : Zone → ℕ → Movement → Zone
 changedUnder z train v = record { work = z .work; movement = changed (z .movement) train v; recorder = z .recorder; time = z .time }

@@ -3,7 +3,6 @@ use mathlib.Core.Bool.{Bool, true, false, _&&_}
 use Prim.Native.Nat.{ℕ, _-_, _/_}
 use lib.Dec.{eqb}
 use Rattle.sets.specs.Sets.{union, without}
-use Rattle.zone.specs.declared.Request.{Request}
 use Rattle.zone.specs.declared.Agreement.{Agreement}
 use Rattle.zone.specs.declared.Work.{Work}
 use Rattle.zone.specs.declared.Work.the-variants.{NoWork, Asked, Agreed}

@@ -1,10 +1,9 @@
 // The state of one zone of the works desk: its work, its movement, its recorder, its last accepted time; what they say, and what
-// messages do to them. The rules are in specs/: Work.antt, Movement.antt and Clearance.antt, and the twelve kinds in Kinds.antt.
+// messages do to them. The rules are in specs/: Work.antt, Movement.antt, Trains.antt (movements by train) and Zone.antt.
 // Every function takes any value, also one that no desk gave.
 ghost use mathlib.Core.Path.{_≡_};
-ghost use Rattle.zone.specs.Kinds.{settled, freshZone};
+ghost use Rattle.zone.specs.Zone.{freshZone, workOf, withWork, atTime, withRecorder, refusedIn, settled};
 
-pub mod clearances;
 pub mod movements;
 pub mod trains;
 pub mod works;
@@ -84,6 +83,49 @@ impl Zone {
     }
 }
 
+// The zone's work.
+pub fn work_of(z: Zone) -> Work
+    ensures { λ r. ⌜ r ≡ workOf z ⌝ }
+{
+    z.work
+}
+
+// The zone with other work, at a time.
+pub fn with_work(z: Zone, w: Work, time: u32) -> Zone
+    ensures { λ r. ⌜ r ≡ withWork z w time ⌝ }
+{
+    Zone { work: w, time, ..z }
+}
+
+// The zone at a time.
+pub fn at_time(z: Zone, time: u32) -> Zone
+    ensures { λ r. ⌜ r ≡ atTime z time ⌝ }
+{
+    Zone { time, ..z }
+}
+
+// The zone with its recorder working or out, at a time.
+pub fn with_recorder(z: Zone, working: bool, time: u32) -> Zone
+    ensures { λ r. ⌜ r ≡ withRecorder z working time ⌝ }
+{
+    Zone {
+        recorder: working,
+        time,
+        ..z
+    }
+}
+
+// The answer that refuses a message.
+pub fn refused_in(z: Zone, code: u8) -> Answer
+    ensures { λ r. ⌜ r ≡ refusedIn z code ⌝ }
+{
+    Answer {
+        code,
+        minutes: 0,
+        zone: z,
+    }
+}
+
 // The answer of a code: 0 gives the next zone and the minutes, any other the zone as it was.
 pub fn settle(z: Zone, code: u8, minutes: u32, next: Zone) -> Answer
     ensures { λ r. ⌜ r ≡ settled z code minutes next ⌝ }
@@ -95,9 +137,5 @@ pub fn settle(z: Zone, code: u8, minutes: u32, next: Zone) -> Answer
             zone: next,
         };
     }
-    Answer {
-        code,
-        minutes: 0,
-        zone: z,
-    }
+    refused_in(z, code)
 }

@@ -1,6 +1,5 @@
 // The work of a zone: what it says, and what messages do to it.
 ghost use mathlib.Core.Path.{_≡_};
-ghost use mathlib.Core.Bool.{not};
 ghost use Rattle.zone.specs.Work.{
   hasWork,
   isAgreed,

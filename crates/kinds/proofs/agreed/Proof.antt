@@ -1,5 +1,4 @@
--- `kinds::agreed` meets its contract: the rule, from what each call ensures. Assumes nothing.
-use Rattle.zone.specs.Kinds.{answered, zoneAfter, workAfter, moved, recorderAfter, minutesFor}
+use Rattle.rules.specs.Kinds.{answered, zoneAfter, workAfter, moved, recorderAfter, minutesFor}
 use borrow.Author.Needs.{needs}
 use Rattle.kinds.proofs.agreed.Statement.{statement}
 use Rattle.kinds.proofs.agreed.Tie as tie
@@ -12,9 +11,10 @@ returns c =
       c .before .agreed .ensures,
       c .before .before .with-work .ensures,
       c .before .before .before .agreed-from .ensures,
+      c .before .before .before .before .work-of .ensures,
     )
 
 pub agreed-spec : {M : Type 1} → statement M
 agreed-spec =
     tie.close
-    (tie.spec (λ c κs. search needs) (λ c κs. search needs) (λ c κs. search needs) (λ c κs. search needs) returns)
+    (tie.spec (λ c κs. search needs) (λ c κs. search needs) (λ c κs. search needs) (λ c κs. search needs) (λ c κs. search needs) returns)

@@ -1,5 +1,4 @@
--- `kinds::all_restored` meets its contract: the rule, from what each call ensures. Assumes nothing.
-use Rattle.zone.specs.Kinds.{answered, zoneAfter, workAfter, moved, recorderAfter, minutesFor}
+use Rattle.rules.specs.Kinds.{answered, zoneAfter, workAfter, moved, recorderAfter, minutesFor}
 use borrow.Author.Needs.{needs}
 use Rattle.kinds.proofs.all_restored.Statement.{statement}
 use Rattle.kinds.proofs.all_restored.Tie as tie
@@ -13,12 +12,14 @@ returns c =
       c .before .before .agreed-at .ensures,
       c .before .before .before .all-restored .ensures,
       c .before .before .before .before .with-work .ensures,
+      c .before .before .before .before .before .work-of .ensures,
     )
 
 pub all-restored-spec : {M : Type 1} → statement M
 all-restored-spec =
     tie.close
     (tie.spec
+    (λ c κs. search needs)
     (λ c κs. search needs)
     (λ c κs. search needs)
     (λ c κs. search needs)

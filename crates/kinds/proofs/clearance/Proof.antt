@@ -1,5 +1,4 @@
--- `kinds::clearance` meets its contract: the rule, from what each call ensures. Assumes nothing.
-use Rattle.zone.specs.Kinds.{answered, zoneAfter, workAfter, moved, recorderAfter, minutesFor}
+use Rattle.rules.specs.Kinds.{answered, zoneAfter, workAfter, moved, recorderAfter, minutesFor}
 use borrow.Author.Needs.{needs}
 use Rattle.kinds.proofs.clearance.Statement.{statement}
 use Rattle.kinds.proofs.clearance.Tie as tie
@@ -17,12 +16,14 @@ returns c =
       c .before .before .before .before .before .before .before .cleared-at .ensures,
       c .before .before .before .before .before .before .before .before .is-efficient .ensures,
       c .before .before .before .before .before .before .before .before .before .movement-under .ensures,
+      c .before .before .before .before .before .before .before .before .before .before .work-of .ensures,
     )
 
 pub clearance-spec : {M : Type 1} → statement M
 clearance-spec =
     tie.close
     (tie.spec
+    (λ c κs. search needs)
     (λ c κs. search needs)
     (λ c κs. search needs)
     (λ c κs. search needs)

@@ -1,5 +1,4 @@
--- `kinds::detection_off` meets its contract: the rule, from what each call ensures. Assumes nothing.
-use Rattle.zone.specs.Kinds.{answered, zoneAfter, workAfter, moved, recorderAfter, minutesFor}
+use Rattle.rules.specs.Kinds.{answered, zoneAfter, workAfter, moved, recorderAfter, minutesFor}
 use borrow.Author.Needs.{needs}
 use Rattle.kinds.proofs.detection_off.Statement.{statement}
 use Rattle.kinds.proofs.detection_off.Tie as tie
@@ -13,12 +12,14 @@ returns c =
       c .before .before .with-work .ensures,
       c .before .before .before .opened-to .ensures,
       c .before .before .before .before .join .ensures,
+      c .before .before .before .before .before .work-of .ensures,
     )
 
 pub detection-off-spec : {M : Type 1} → statement M
 detection-off-spec =
     tie.close
     (tie.spec
+    (λ c κs. search needs)
     (λ c κs. search needs)
     (λ c κs. search needs)
     (λ c κs. search needs)

@@ -1,5 +1,4 @@
--- `kinds::movement_asked` meets its contract: the rule, from what each call ensures. Assumes nothing.
-use Rattle.zone.specs.Kinds.{answered, zoneAfter, workAfter, moved, recorderAfter, minutesFor}
+use Rattle.rules.specs.Kinds.{answered, zoneAfter, workAfter, moved, recorderAfter, minutesFor}
 use borrow.Author.Needs.{needs}
 use Rattle.kinds.proofs.movement_asked.Statement.{statement}
 use Rattle.kinds.proofs.movement_asked.Tie as tie

@@ -1,5 +1,4 @@
--- `kinds::part_restored` meets its contract: the rule, from what each call ensures. Assumes nothing.
-use Rattle.zone.specs.Kinds.{answered, zoneAfter, workAfter, moved, recorderAfter, minutesFor}
+use Rattle.rules.specs.Kinds.{answered, zoneAfter, workAfter, moved, recorderAfter, minutesFor}
 use borrow.Author.Needs.{needs}
 use Rattle.kinds.proofs.part_restored.Statement.{statement}
 use Rattle.kinds.proofs.part_restored.Tie as tie
@@ -12,12 +11,14 @@ returns c =
       c .before .part-restored .ensures,
       c .before .before .with-work .ensures,
       c .before .before .before .restored-of .ensures,
+      c .before .before .before .before .work-of .ensures,
     )
 
 pub part-restored-spec : {M : Type 1} → statement M
 part-restored-spec =
     tie.close
     (tie.spec
+    (λ c κs. search needs)
     (λ c κs. search needs)
     (λ c κs. search needs)
     (λ c κs. search needs)

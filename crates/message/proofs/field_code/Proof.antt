@@ -1,4 +1,4 @@
--- `message::field_code` meets its contract: the kind's two ends, then the field rules. Assumes nothing.
+-- The kind's two ends, then the field rules.
 use borrow.Author.Tests.{le-leb, lt-leb}
 use Rattle.message.specs.Fields.{fieldNumber}
 use borrow.Author.Needs.{needs}

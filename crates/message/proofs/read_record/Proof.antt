@@ -1,4 +1,4 @@
--- `message::read_record` meets its contract: length, kind and fields are tested in the order of the rule. Assumes nothing.
+-- Length, kind and fields are tested in the order of the rule.
 use mathlib.Core.Path.{ap, _∙_}
 use lib.ListN.{length}
 use denote.Ref.{now}

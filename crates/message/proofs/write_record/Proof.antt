@@ -1,4 +1,4 @@
--- `message::write_record` meets its contract: length and field rules are tested in the order of the rule; the stores then cover the whole buffer. Assumes nothing.
+-- Length and field rules are tested in the order of the rule; the stores then cover the whole buffer.
 use mathlib.Core.Path.{sym, _∙_}
 use lib.ListN.{length}
 use denote.Ref.{now}

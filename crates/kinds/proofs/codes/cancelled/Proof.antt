@@ -1,5 +1,4 @@
--- `kinds::codes::cancelled` meets its contract: the rule, from what each call ensures. Assumes nothing.
-use Rattle.zone.specs.Kinds.{row}
+use Rattle.rules.specs.Kinds.{row}
 use borrow.Author.Needs.{needs}
 use Rattle.kinds.proofs.codes.cancelled.Statement.{statement}
 use Rattle.kinds.proofs.codes.cancelled.Tie as tie

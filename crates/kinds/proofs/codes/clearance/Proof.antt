@@ -1,5 +1,4 @@
--- `kinds::codes::clearance` meets its contract: the rule, from what each call ensures. Assumes nothing.
-use Rattle.zone.specs.Kinds.{row}
+use Rattle.rules.specs.Kinds.{row}
 use borrow.Author.Needs.{needs}
 use Rattle.kinds.proofs.codes.clearance.Statement.{statement}
 use Rattle.kinds.proofs.codes.clearance.Tie as tie
@@ -20,12 +19,14 @@ returns c =
       c .before .before .before .before .before .before .before .before .before .medium-fits .ensures,
       c .before .before .before .before .before .before .before .before .before .before .route-for .ensures,
       c .before .before .before .before .before .before .before .before .before .before .before .movement-under .ensures,
+      c .before .before .before .before .before .before .before .before .before .before .before .before .work-of .ensures,
     )
 
 pub clearance-spec : {M : Type 1} → statement M
 clearance-spec =
     tie.close
     (tie.spec
+    (λ c κs. search needs)
     (λ c κs. search needs)
     (λ c κs. search needs)
     (λ c κs. search needs)

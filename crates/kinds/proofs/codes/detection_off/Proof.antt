@@ -1,5 +1,4 @@
--- `kinds::codes::detection_off` meets its contract: the rule, from what each call ensures. Assumes nothing.
-use Rattle.zone.specs.Kinds.{row}
+use Rattle.rules.specs.Kinds.{row}
 use borrow.Author.Needs.{needs}
 use Rattle.kinds.proofs.codes.detection_off.Statement.{statement}
 use Rattle.kinds.proofs.codes.detection_off.Tie as tie
@@ -20,12 +19,14 @@ returns c =
       c .before .before .before .before .before .before .before .before .before .join .ensures,
       c .before .before .before .before .before .before .before .before .before .before .first-code .ensures,
       c .before .before .before .before .before .before .before .before .before .before .before .device-under-verbal .ensures,
+      c .before .before .before .before .before .before .before .before .before .before .before .before .work-of .ensures,
     )
 
 pub detection-off-spec : {M : Type 1} → statement M
 detection-off-spec =
     tie.close
     (tie.spec
+    (λ c κs. search needs)
     (λ c κs. search needs)
     (λ c κs. search needs)
     (λ c κs. search needs)

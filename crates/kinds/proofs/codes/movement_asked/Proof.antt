@@ -1,5 +1,4 @@
--- `kinds::codes::movement_asked` meets its contract: the rule, from what each call ensures. Assumes nothing.
-use Rattle.zone.specs.Kinds.{row}
+use Rattle.rules.specs.Kinds.{row}
 use borrow.Author.Needs.{needs}
 use Rattle.kinds.proofs.codes.movement_asked.Statement.{statement}
 use Rattle.kinds.proofs.codes.movement_asked.Tie as tie

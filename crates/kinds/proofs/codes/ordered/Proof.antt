@@ -1,5 +1,4 @@
--- `kinds::codes::ordered` meets its contract: the rule, from what each call ensures. Assumes nothing.
-use Rattle.zone.specs.Kinds.{row}
+use Rattle.rules.specs.Kinds.{row}
 use borrow.Author.Needs.{needs}
 use Rattle.kinds.proofs.codes.ordered.Statement.{statement}
 use Rattle.kinds.proofs.codes.ordered.Tie as tie
@@ -15,12 +14,14 @@ returns c =
       c .before .before .before .before .first-code .ensures,
       c .before .before .before .before .before .order-forbidden .ensures,
       c .before .before .before .before .before .before .movement-under .ensures,
+      c .before .before .before .before .before .before .before .work-of .ensures,
     )
 
 pub ordered-spec : {M : Type 1} → statement M
 ordered-spec =
     tie.close
     (tie.spec
+    (λ c κs. search needs)
     (λ c κs. search needs)
     (λ c κs. search needs)
     (λ c κs. search needs)

@@ -1,5 +1,4 @@
--- `kinds::codes::passed` meets its contract: the rule, from what each call ensures. Assumes nothing.
-use Rattle.zone.specs.Kinds.{row}
+use Rattle.rules.specs.Kinds.{row}
 use borrow.Author.Needs.{needs}
 use Rattle.kinds.proofs.codes.passed.Statement.{statement}
 use Rattle.kinds.proofs.codes.passed.Tie as tie

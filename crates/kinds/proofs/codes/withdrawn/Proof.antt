@@ -1,5 +1,4 @@
--- `kinds::codes::withdrawn` meets its contract: the rule, from what each call ensures. Assumes nothing.
-use Rattle.zone.specs.Kinds.{row}
+use Rattle.rules.specs.Kinds.{row}
 use borrow.Author.Needs.{needs}
 use Rattle.kinds.proofs.codes.withdrawn.Statement.{statement}
 use Rattle.kinds.proofs.codes.withdrawn.Tie as tie
@@ -12,12 +11,14 @@ returns c =
       c .before .no-work-under .ensures,
       c .before .before .first-code .ensures,
       c .before .before .before .is-agreed .ensures,
+      c .before .before .before .before .work-of .ensures,
     )
 
 pub withdrawn-spec : {M : Type 1} → statement M
 withdrawn-spec =
     tie.close
     (tie.spec
+    (λ c κs. search needs)
     (λ c κs. search needs)
     (λ c κs. search needs)
     (λ c κs. search needs)

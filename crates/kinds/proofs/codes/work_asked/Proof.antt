@@ -1,5 +1,4 @@
--- `kinds::codes::work_asked` meets its contract: the rule, from what each call ensures. Assumes nothing.
-use Rattle.zone.specs.Kinds.{row}
+use Rattle.rules.specs.Kinds.{row}
 use borrow.Author.Needs.{needs}
 use Rattle.kinds.proofs.codes.work_asked.Statement.{statement}
 use Rattle.kinds.proofs.codes.work_asked.Tie as tie
@@ -12,12 +11,14 @@ returns c =
       c .before .has-work .ensures,
       c .before .before .first-code .ensures,
       c .before .before .before .bad-request .ensures,
+      c .before .before .before .before .work-of .ensures,
     )
 
 pub work-asked-spec : {M : Type 1} → statement M
 work-asked-spec =
     tie.close
     (tie.spec
+    (λ c κs. search needs)
     (λ c κs. search needs)
     (λ c κs. search needs)
     (λ c κs. search needs)

@@ -1,4 +1,4 @@
--- `message::fields::clearance_details` meets its contract: the tests of the rule, one for one. Assumes nothing.
+-- The tests of the rule, one for one.
 use mathlib.Core.Bool.{and-true}
 use borrow.Author.Needs.{needs}
 use Rattle.message.proofs.fields.clearance_details.Statement.{statement}

@@ -1,4 +1,4 @@
--- `message::fields::fields_kept` meets its contract: the id rule and the table's row. Assumes nothing.
+-- The id rule and the table's row.
 use Rattle.message.specs.Fields.{fieldsKept}
 use borrow.Author.Needs.{needs}
 use Rattle.message.proofs.fields.fields_kept.Statement.{statement}

@@ -1,4 +1,4 @@
--- `message::fields::first_detail` meets its contract: the first detail, then the rest. Assumes nothing.
+-- The first detail, then the rest.
 use borrow.Author.Needs.{needs}
 use Rattle.message.proofs.fields.first_detail.Statement.{statement}
 use Rattle.message.proofs.fields.first_detail.Tie as tie

@@ -1,4 +1,4 @@
--- `message::fields::id_kept` meets its contract: one test, both ways. Assumes nothing.
+-- One test, both ways.
 use borrow.Author.Tests.{eq-eqb, ne-eqb}
 use Rattle.message.proofs.fields.id_kept.Statement.{statement}
 use Rattle.message.proofs.fields.id_kept.Tie as tie

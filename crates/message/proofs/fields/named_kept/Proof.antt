@@ -1,4 +1,4 @@
--- `message::fields::named_kept` meets its contract: each arm of the match is the table's row; the last arm has the kinds that name nothing. Assumes nothing.
+-- Each arm of the match is the table's row; the last arm has the kinds that name nothing.
 use Rattle.message.specs.Fields.{named}
 use Rattle.message.proofs.Named.{names-nothing}
 use borrow.Author.Needs.{needs}
@@ -42,8 +42,7 @@ returns-7 c =
 
 returns-8 : tie.Need-returns-8
 returns-8 c =
-    let none = c .before .before .match .rest in
-    let n = names-nothing (c .before .before .before .args .m .kind) (none .0 .0 .0 .0 .0 .0 .1) (none .0 .0 .0 .0 .0 .1) (none .0 .0 .0 .0 .1) (none .0 .0 .0 .1) (none .0 .0 .1) (none .0 .1) (none .1) in
+    let n = names-nothing (c .before .before .before .args .m .kind) (c .before .before .match .rest) in
     rw (n, c .before .no-sets5 .ensures, c .no-details3 .ensures)
 
 pub named-kept-spec : {M : Type 1} → statement M

@@ -1,4 +1,4 @@
--- `message::fields::no_details` meets its contract: the first detail, then the rest. Assumes nothing.
+-- The first detail, then the rest.
 use borrow.Author.Needs.{needs}
 use Rattle.message.proofs.fields.no_details.Statement.{statement}
 use Rattle.message.proofs.fields.no_details.Tie as tie

@@ -1,4 +1,4 @@
--- `message::fields::no_more_details` meets its contract: the tests of the rule, one for one. Assumes nothing.
+-- The tests of the rule, one for one.
 use mathlib.Core.Bool.{and-true}
 use Rattle.message.proofs.fields.no_more_details.Statement.{statement}
 use Rattle.message.proofs.fields.no_more_details.Tie as tie

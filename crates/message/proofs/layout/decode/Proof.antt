@@ -1,4 +1,4 @@
--- `message::layout::decode` meets its contract: each field by the read at its place. Assumes nothing.
+-- Each field by the read at its place.
 use Rattle.message.specs.Record.{decoded}
 use borrow.Author.Needs.{needs}
 use Rattle.message.proofs.layout.decode.Statement.{statement}

@@ -1,4 +1,4 @@
--- `message::layout::encode` meets its contract: the head, then the details. Assumes nothing.
+-- The head, then the details.
 use Rattle.message.specs.Record.{encoded, headBytes}
 use borrow.Author.Needs.{needs}
 use Rattle.message.proofs.layout.encode.Statement.{statement}

@@ -1,4 +1,4 @@
--- `message::layout::put_details` meets its contract: the stores, one after the other. Assumes nothing.
+-- The stores, one after the other.
 use borrow.Author.Needs.{needs}
 use Rattle.message.proofs.layout.put_details.Statement.{statement}
 use Rattle.message.proofs.layout.put_details.Tie as tie

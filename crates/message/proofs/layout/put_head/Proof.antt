@@ -1,4 +1,4 @@
--- `message::layout::put_head` meets its contract: the stores, one after the other. Assumes nothing.
+-- The stores, one after the other.
 use Rattle.message.specs.Record.{headBytes}
 use borrow.Author.Needs.{needs}
 use Rattle.message.proofs.layout.put_head.Statement.{statement}

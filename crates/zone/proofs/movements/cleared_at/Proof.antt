@@ -1,4 +1,3 @@
--- `zone::movements::cleared_at` meets its contract: each way out is a case of the rule. Assumes nothing.
 use borrow.Author.Needs.{needs}
 use Rattle.zone.proofs.movements.cleared_at.Statement.{statement}
 use Rattle.zone.proofs.movements.cleared_at.Tie as tie

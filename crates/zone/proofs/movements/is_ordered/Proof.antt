@@ -1,4 +1,3 @@
--- `zone::movements::is_ordered` meets its contract: the rule, from what each call ensures. Assumes nothing.
 use borrow.Author.Needs.{needs}
 use Rattle.zone.proofs.movements.is_ordered.Statement.{statement}
 use Rattle.zone.proofs.movements.is_ordered.Tie as tie

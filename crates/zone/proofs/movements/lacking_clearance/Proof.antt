@@ -1,4 +1,3 @@
--- `zone::movements::lacking_clearance` meets its contract: the rule, from what each call ensures. Assumes nothing.
 use borrow.Author.Needs.{needs}
 use Rattle.zone.proofs.movements.lacking_clearance.Statement.{statement}
 use Rattle.zone.proofs.movements.lacking_clearance.Tie as tie

@@ -1,4 +1,3 @@
--- `zone::movements::named_turnouts` meets its contract: the rule, from what each call ensures. Assumes nothing.
 use borrow.Author.Needs.{needs}
 use Rattle.zone.proofs.movements.named_turnouts.Statement.{statement}
 use Rattle.zone.proofs.movements.named_turnouts.Tie as tie

@@ -1,4 +1,3 @@
--- `zone::movements::only_if` meets its contract: the rule, from what each call ensures. Assumes nothing.
 use borrow.Author.Needs.{needs}
 use Rattle.zone.proofs.movements.only_if.Statement.{statement}
 use Rattle.zone.proofs.movements.only_if.Tie as tie

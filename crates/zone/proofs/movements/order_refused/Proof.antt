@@ -1,4 +1,3 @@
--- `zone::movements::order_refused` meets its contract: each way out is a case of the rule. Assumes nothing.
 use borrow.Author.Tests.{eq-eqb, ne-eqb}
 use borrow.Author.Needs.{needs}
 use Rattle.zone.proofs.movements.order_refused.Statement.{statement}

@@ -1,4 +1,3 @@
--- `zone::movements::ordered_as` meets its contract: each way out is a case of the rule. Assumes nothing.
 use borrow.Author.Needs.{needs}
 use Rattle.zone.proofs.movements.ordered_as.Statement.{statement}
 use Rattle.zone.proofs.movements.ordered_as.Tie as tie

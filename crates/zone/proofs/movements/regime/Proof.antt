@@ -1,4 +1,3 @@
--- `zone::movements::regime` meets its contract: each way out is a case of the rule. Assumes nothing.
 use Rattle.zone.specs.Movement.{regimeOf}
 use borrow.Author.Needs.{needs}
 use Rattle.zone.proofs.movements.regime.Statement.{statement}

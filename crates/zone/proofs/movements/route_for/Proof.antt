@@ -1,4 +1,3 @@
--- `zone::movements::route_for` meets its contract: each way out is a case of the rule. Assumes nothing.
 use borrow.Author.Needs.{needs}
 use Rattle.zone.proofs.movements.route_for.Statement.{statement}
 use Rattle.zone.proofs.movements.route_for.Tie as tie

@@ -1,4 +1,3 @@
--- `zone::movements::under_train` meets its contract: the rule, from what each call ensures. Assumes nothing.
 use borrow.Author.Needs.{needs}
 use Rattle.zone.proofs.movements.under_train.Statement.{statement}
 use Rattle.zone.proofs.movements.under_train.Tie as tie

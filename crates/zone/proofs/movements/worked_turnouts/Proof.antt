@@ -1,4 +1,3 @@
--- `zone::movements::worked_turnouts` meets its contract: the rule, from what each call ensures. Assumes nothing.
 use borrow.Author.Needs.{needs}
 use Rattle.zone.proofs.movements.worked_turnouts.Statement.{statement}
 use Rattle.zone.proofs.movements.worked_turnouts.Tie as tie

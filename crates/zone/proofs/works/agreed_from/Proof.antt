@@ -1,4 +1,3 @@
--- `zone::works::agreed_from` meets its contract: each way out is a case of the rule. Assumes nothing.
 use borrow.Author.Needs.{needs}
 use Rattle.zone.proofs.works.agreed_from.Statement.{statement}
 use Rattle.zone.proofs.works.agreed_from.Tie as tie

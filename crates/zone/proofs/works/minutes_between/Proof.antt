@@ -1,4 +1,3 @@
--- `zone::works::minutes_between` meets its contract: each way out is a case of the rule. Assumes nothing.
 use mathlib.Core.Path.{_≡_, refl}
 use Prim.Native.Nat.{_-_}
 use native.Mathlib.Omega.{arith}

@@ -1,4 +1,3 @@
--- `zone::works::restored_of` meets its contract: each way out is a case of the rule. Assumes nothing.
 use borrow.Author.Needs.{needs}
 use Rattle.zone.proofs.works.restored_of.Statement.{statement}
 use Rattle.zone.proofs.works.restored_of.Tie as tie

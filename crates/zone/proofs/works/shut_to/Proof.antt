@@ -1,4 +1,3 @@
--- `zone::works::shut_to` meets its contract: each way out is a case of the rule. Assumes nothing.
 use borrow.Author.Needs.{needs}
 use Rattle.zone.proofs.works.shut_to.Statement.{statement}
 use Rattle.zone.proofs.works.shut_to.Tie as tie

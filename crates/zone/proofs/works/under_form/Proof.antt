@@ -1,4 +1,3 @@
--- `zone::works::under_form` meets its contract: the rule, from what each call ensures. Assumes nothing.
 use borrow.Author.Needs.{needs}
 use Rattle.zone.proofs.works.under_form.Statement.{statement}
 use Rattle.zone.proofs.works.under_form.Tie as tie

@@ -1,0 +1,136 @@
+// The tests of document 01's table of kinds that look at more than one thing. The rules are in specs/: the table of kinds in
+// Kinds.antt, what makes a clearance fit in Clearance.antt.
+ghost use mathlib.Core.Path.{_≡_};
+ghost use Rattle.rules.specs.Kinds.{
+  noWorkUnder,
+  noMovementUnder,
+  badRequest,
+  badDetection,
+  badRoute,
+  badPart,
+  inTheWay,
+  clearedAmong,
+  deviceUnderVerbal,
+  isCleared,
+  notWorked,
+  misfits,
+  orderForbidden,
+};
+
+pub mod clearances;
+
+use clearances::clearance_fits;
+use message::Message;
+use station::Route;
+use station::Station;
+use zone::Movement;
+use zone::Work;
+use zone::Zone;
+use zone::movements::cleared_set;
+use zone::movements::is_standing;
+use zone::movements::order_refused;
+use zone::movements::regime;
+use zone::trains::cleared_standing;
+use zone::trains::movement_under;
+use zone::trains::named_standing;
+use zone::work_of;
+use zone::works::agreed_set;
+use zone::works::manner_of;
+use zone::works::under_form;
+
+// 15: no work under this id.
+pub fn no_work_under(z: Zone, m: Message) -> bool
+    ensures { λ r. ⌜ r ≡ noWorkUnder z m ⌝ }
+{
+    !under_form(work_of(z), m.id)
+}
+
+// 15: no movement under this id.
+pub fn no_movement_under(z: Zone, m: Message) -> bool
+    ensures { λ r. ⌜ r ≡ noMovementUnder z m ⌝ }
+{
+    !is_standing(movement_under(z, m.id))
+}
+
+// 17 of a request: empty, outside the zone or splitting a crossover.
+pub fn bad_request(st: Station, zone: u8, a: u64) -> bool
+    ensures { λ r. ⌜ r ≡ badRequest st zone a ⌝ }
+{
+    sets::is_empty(a)
+        | !sets::is_within(a, station::turnouts_of_zone(st, zone))
+        | station::splits_crossover(st, a)
+}
+
+// 17 of detection off: both empty, overlapping or outside the work.
+pub fn bad_detection(set: u64, a: u64, b: u64) -> bool
+    ensures { λ r. ⌜ r ≡ badDetection set a b ⌝ }
+{
+    let both = sets::join(a, b);
+    sets::is_empty(both) | sets::overlap(a, b) | !sets::is_within(both, set)
+}
+
+// 17 of a movement: route not below R or of another zone.
+pub fn bad_route(st: Station, zone: u8, route: u8) -> bool
+    ensures { λ r. ⌜ r ≡ badRoute st zone route ⌝ }
+{
+    let n = route as usize;
+    let r = station::route_of(st, n);
+    let count = station::route_count(st);
+    !(n < count) | !(r.zone == zone)
+}
+
+// 17 of a part restored: empty, not a proper part of the work, or splitting a crossover.
+pub fn bad_part(st: Station, set: u64, a: u64) -> bool
+    ensures { λ r. ⌜ r ≡ badPart st set a ⌝ }
+{
+    sets::is_empty(a) | !sets::is_within(a, set) | (a == set) | station::splits_crossover(st, a)
+}
+
+// 19: whether a standing movement names a turnout of the set.
+pub fn names_of(st: Station, z: Zone, s: u64) -> bool
+    ensures { λ r. ⌜ r ≡ inTheWay st z s ⌝ }
+{
+    sets::overlap(named_standing(st, z), s)
+}
+
+// 19 of detection off: a cleared turnout in a or b.
+pub fn cleared_among(z: Zone, s: u64) -> bool
+    ensures { λ r. ⌜ r ≡ clearedAmong z s ⌝ }
+{
+    sets::overlap(cleared_standing(z), s)
+}
+
+// 22 of detection off: a portable device under a verbal request.
+pub fn device_under_verbal(w: Work, b: u64) -> bool
+    ensures { λ r. ⌜ r ≡ deviceUnderVerbal w b ⌝ }
+{
+    !sets::is_empty(b) & (manner_of(w) == 2)
+}
+
+// 16 of a clearance: the turnout is cleared already.
+pub fn is_cleared(v: Movement, n: u8) -> bool
+    ensures { λ r. ⌜ r ≡ isCleared v n ⌝ }
+{
+    sets::contains(cleared_set(v), n as usize)
+}
+
+// 17 of a clearance: the turnout is not under agreed work or not named.
+pub fn not_worked(r: Route, w: Work, n: u8) -> bool
+    ensures { λ b. ⌜ b ≡ notWorked r w n ⌝ }
+{
+    !sets::contains(station::names(r) & agreed_set(w), n as usize)
+}
+
+// 20: the clearance does not fit its turnout.
+pub fn misfit(st: Station, r: Route, m: Message) -> bool
+    ensures { λ b. ⌜ b ≡ misfits st r m ⌝ }
+{
+    !clearance_fits(st, r, m)
+}
+
+// 22 of an order: the regime forbids it.
+pub fn order_forbidden(st: Station, w: Work, v: Movement, order: u8) -> bool
+    ensures { λ r. ⌜ r ≡ orderForbidden st w v order ⌝ }
+{
+    order_refused(order, regime(st, w, v))
+}

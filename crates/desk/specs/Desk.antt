@@ -1,6 +1,6 @@
 -- The desk: its zones, hearing a message, hearing bytes as a record. Document 01, 'Message record' and the order of all checks:
 -- 10, 11, 13, 12, 14, then those of the kind.
-use mathlib.Core.Bool.{cond, not, false}
+use mathlib.Core.Bool.{Bool, cond, not}
 use mathlib.Core.List.{List}
 use Prim.Native.Nat.{ℕ}
 use lib.Dec.{eqb, ltb}
@@ -11,20 +11,15 @@ use Rattle.message.specs.declared.Message.{Message}
 use Rattle.message.specs.Fields.{fieldNumber}
 use Rattle.message.specs.Record.{readRecord}
 use Rattle.zone.specs.declared.Zone.{Zone}
-use Rattle.zone.specs.declared.Work.the-variants.{NoWork}
-use Rattle.zone.specs.declared.Movement.the-variants.{NoMovement}
 use Rattle.zone.specs.declared.Answer.{Answer}
-use Rattle.zone.specs.Kinds.{heard, freshZone}
+use Rattle.zone.specs.Zone.{freshZone, noZone, refusedIn}
+use Rattle.rules.specs.Kinds.{heard}
 use Rattle.desk.specs.declared.Desk.{Desk}
 use Rattle.desk.specs.declared.Applied.{Applied}
 
 -- "A fresh desk has no work and no movement in any zone, recorders working, times 0."
 unfoldable pub freshDesk : Desk
 freshDesk = record { zones = replicate 8 freshZone }
-
--- what stands past the last zone
-abbrev pub noZone : Zone
-noZone = record { work = NoWork; movement = NoMovement; recorder = false; time = 0 }
 
 abbrev pub zoneAt : Desk → ℕ → Zone
 zoneAt d n = getD (d .zones) n noZone
@@ -37,14 +32,28 @@ refusedBy d number = record { code = number; minutes = 0; desk = d }
 abbrev pub putBack : Desk → ℕ → Answer → Applied
 putBack d n a = record { code = a .code; minutes = a .minutes; desk = record { zones = set (d .zones) n (a .zone) } }
 
--- a message: 11, 13, 12, then by its zone
+-- 12, "zone not below Z"
+abbrev pub noSuchZone : Station → Message → Bool
+noSuchZone st m = not (ltb (m .zone) (zoneCount st))
+
+-- a message that keeps the field rules: 12, then by its zone
+unfoldable pub reached : Station → Desk → Message → Applied
+reached st d m =
+    cond (noSuchZone st m) (refusedBy d 12) (putBack d (m .zone) (heard st (zoneAt d (m .zone)) m))
+
+-- "A message that no record carries the desk refuses by 11 or 13, as its record would be"
 unfoldable pub applied : Station → Desk → Message → Applied
-applied st d m =
-    cond (not (eqb (fieldNumber m) 0)) (refusedBy d (fieldNumber m))
-    (cond (not (ltb (m .zone) (zoneCount st))) (refusedBy d 12)
-    (putBack d (m .zone) (heard st (zoneAt d (m .zone)) m)))
+applied st d m = cond (not (eqb (fieldNumber m) 0)) (refusedBy d (fieldNumber m)) (reached st d m)
 
 -- "A record is first read into a message, or refused (10, 11, 13, in that order); only then does the desk check 12, 14 and the rest."
 unfoldable pub appliedRecord : Station → Desk → List ℕ → Applied
 appliedRecord st d s =
-    cond (eqb (readRecord s .code) 0) (applied st d (readRecord s .message)) (refusedBy d (readRecord s .code))
+    cond (eqb (readRecord s .code) 0) (reached st d (readRecord s .message)) (refusedBy d (readRecord s .code))
+
+-- The same in one zone, for whoever keeps the zones himself, of a message that keeps the field rules: the place of a message's zone in the desk, 0 where the station has none
+-- such, and the answer of the zone in that place. The law `reached-in-place` says that putting it back is hearing by the desk.
+unfoldable pub zonePlace : Station → Message → ℕ
+zonePlace st m = cond (noSuchZone st m) 0 (m .zone)
+
+unfoldable pub zoneHears : Station → Zone → Message → Answer
+zoneHears st z m = cond (noSuchZone st m) (refusedIn z 12) (heard st z m)

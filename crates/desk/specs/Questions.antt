@@ -1,5 +1,5 @@
 -- "Two questions change nothing."
-use mathlib.Core.Bool.{Bool, false, cond, not, _&&_}
+use mathlib.Core.Bool.{false, cond, not, _&&_}
 use Prim.Native.Nat.{ℕ}
 use lib.Dec.{ltb}
 use Rattle.sets.specs.Sets.{has, isEmpty, count, lowest}
@@ -10,6 +10,7 @@ use Rattle.zone.specs.declared.Regime.the-variants.{Held}
 use Rattle.zone.specs.Work.{openSet}
 use Rattle.zone.specs.Movement.{isStanding, lacking, regimeOf}
 use Rattle.zone.specs.Trains.{movementUnder}
+use Rattle.zone.specs.Zone.{workOf}
 use Rattle.desk.specs.declared.Desk.{Desk}
 use Rattle.desk.specs.declared.MovementAnswer.{MovementAnswer}
 use Rattle.desk.specs.declared.WorkAnswer.{WorkAnswer}
@@ -29,9 +30,9 @@ movementIn st z train =
     cond (not (isStanding (movementUnder z train))) (movementRefused 15)
     (record {
       code = 0;
-      regime = regimeOf st (z .work) (movementUnder z train);
-      lowest = lowestOf (lacking st (z .work) (movementUnder z train));
-      count = count (lacking st (z .work) (movementUnder z train));
+      regime = regimeOf st (workOf z) (movementUnder z train);
+      lowest = lowestOf (lacking st (workOf z) (movementUnder z train));
+      count = count (lacking st (workOf z) (movementUnder z train));
     })
 
 unfoldable pub movementAnswered : Station → Desk → ℕ → ℕ → MovementAnswer
@@ -45,5 +46,5 @@ workAnswered st d n =
     cond (not (ltb n (turnoutCount st))) (record { code = 13; yes = false })
     (record {
       code = 0;
-      yes = ltb (zoneOf st n) (zoneCount st) && has (openSet (zoneAt d (zoneOf st n) .work)) n;
+      yes = ltb (zoneOf st n) (zoneCount st) && has (openSet (workOf (zoneAt d (zoneOf st n)))) n;
     })

@@ -1,7 +1,8 @@
 // The works desk: it hears messages and records, and answers two questions. The rules are in specs/: Desk.antt (hearing) and
-// Questions.antt; the kinds are in the crate zone. Every function takes any station and any desk value.
+// Questions.antt; the kinds are in the crate `rules`. Every function takes any station and any desk value.
 ghost use mathlib.Core.Path.{_≡_};
-ghost use Rattle.desk.specs.Desk.{freshDesk, refusedBy, putBack, applied, appliedRecord};
+ghost use Prim.Native.Nat.{_<_};
+ghost use Rattle.desk.specs.Desk.{freshDesk, refusedBy, reached, applied, appliedRecord, zonePlace, zoneHears};
 ghost use Rattle.desk.specs.Questions.{movementRefused, lowestOf, movementIn, movementAnswered, workAnswered};
 use message::Message;
 use message::Reading;
@@ -14,8 +15,6 @@ use zone::Zone;
 pub const NO_SUCH_ZONE: u8 = 12;
 
 pub const NO_SUCH_TURNOUT: u8 = 13;
-
-pub const NO_SUCH_MOVEMENT: u8 = 15;
 
 // A desk: the state of its zones.
 pub struct Desk {
@@ -70,6 +69,47 @@ fn refused(d: Desk, code: u8) -> Applied
     }
 }
 
+// The place of a message's zone in a desk; 0 for a zone that the station has not.
+pub fn zone_place(st: Station, m: Message) -> usize
+    ensures { λ r. ⌜ r ≡ zonePlace st m ⌝ }
+    ensures { λ r. ⌜ r < 8 ⌝ }
+{
+    let n = m.zone as usize;
+    if station::zone_count(st) <= n {
+        return 0;
+    }
+    n
+}
+
+// A message that keeps the field rules, heard by the zone in its place: 12 for a zone that the station has not, else as the
+// zone hears it.
+pub fn zone_hears(st: Station, z: Zone, m: Message) -> Answer
+    ensures { λ r. ⌜ r ≡ zoneHears st z m ⌝ }
+{
+    let n = m.zone as usize;
+    if station::zone_count(st) <= n {
+        return zone::refused_in(z, NO_SUCH_ZONE);
+    }
+    kinds::hear(st, z, m)
+}
+
+// A message that keeps the field rules, heard by the desk.
+fn reach(st: Station, d: Desk, m: Message) -> Applied
+    ensures { λ r. ⌜ r ≡ reached st d m ⌝ }
+{
+    let place = zone_place(st, m);
+    let z = d.zones[place];
+    let a = zone_hears(st, z, m);
+    let after = a.zone;
+    let mut next = d;
+    next.zones[place] = after;
+    Applied {
+        code: a.code,
+        minutes: a.minutes,
+        desk: next,
+    }
+}
+
 // A message heard by the desk.
 pub fn apply(st: Station, d: Desk, m: Message) -> Applied
     ensures { λ r. ⌜ r ≡ applied st d m ⌝ }
@@ -78,20 +118,7 @@ pub fn apply(st: Station, d: Desk, m: Message) -> Applied
     if code != 0 {
         return refused(d, code);
     }
-    let n = m.zone as usize;
-    if station::zone_count(st) <= n {
-        return refused(d, NO_SUCH_ZONE);
-    }
-    let z = d.zones[n];
-    let a = kinds::hear(st, z, m);
-    let after = a.zone;
-    let mut next = d;
-    next.zones[n] = after;
-    Applied {
-        code: a.code,
-        minutes: a.minutes,
-        desk: next,
-    }
+    reach(st, d, m)
 }
 
 // Bytes heard by the desk as a record.
@@ -102,7 +129,7 @@ pub fn apply_record(st: Station, d: Desk, s: &[u8]) -> Applied
     let Reading::Accepted(m) = reading else {
         return refused(d, message::reading_code(reading));
     };
-    apply(st, d, m)
+    reach(st, d, m)
 }
 
 // The answer that refuses the movement question.
@@ -131,10 +158,10 @@ fn lowest_of(s: u64) -> u32
 fn movement_in(st: Station, z: Zone, train: u32) -> MovementAnswer
     ensures { λ r. ⌜ r ≡ movementIn st z train ⌝ }
 {
-    let w = z.work;
+    let w = zone::work_of(z);
     let v = zone::trains::movement_under(z, train);
     if !zone::movements::is_standing(v) {
-        return movement_refused(NO_SUCH_MOVEMENT);
+        return movement_refused(kinds::NOT_UNDER_THIS_ID);
     }
     let lacking = zone::movements::lacking_clearance(st, w, v);
     MovementAnswer {
@@ -176,9 +203,8 @@ pub fn query_work(st: Station, d: Desk, turnout: u8) -> WorkAnswer
         };
     }
     let z = d.zones[zone];
-    let w = z.work;
     WorkAnswer {
         code: 0,
-        yes: sets::contains(zone::works::open_set(w), n),
+        yes: sets::contains(zone::works::open_set(zone::work_of(z)), n),
     }
 }

@@ -1,4 +1,3 @@
--- `desk::apply_record` meets its contract: each way out is a case of the rule. Assumes nothing.
 use mathlib.Core.Path.{_≡_, sym, ap, _∙_}
 use denote.Ref.{now}
 use borrow.Author.Tests.{ne-eqb}
@@ -23,7 +22,7 @@ returns-2 c =
     let told = c .before .before .reading .given in
     let s = now (c .before .before .before .before .before .before .args .s) in
     let answer : accepted (told .0 .0) ≡ readRecord s = sym (ap readingOf (told .1)) ∙ c .before .before .before .before .read-record .ensures in
-    rw (c .apply .ensures, ← answer)
+    rw (c .reach .ensures, ← answer)
 
 pub apply-record-spec : {M : Type 1} → statement M
 apply-record-spec =

@@ -1,4 +1,3 @@
--- `desk::lowest_of` meets its contract: each way out is a case of the rule. Assumes nothing.
 use borrow.Author.Needs.{needs}
 use Rattle.desk.proofs.lowest_of.Statement.{statement}
 use Rattle.desk.proofs.lowest_of.Tie as tie

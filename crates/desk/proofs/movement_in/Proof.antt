@@ -1,20 +1,34 @@
--- `desk::movement_in` meets its contract: each way out is a case of the rule. Assumes nothing.
 use borrow.Author.Needs.{needs}
 use Rattle.desk.proofs.movement_in.Statement.{statement}
 use Rattle.desk.proofs.movement_in.Tie as tie
 
 returns : tie.Need-returns
 returns c =
-    rw (c .movement-refused .ensures, ← c .before .before .before .movement-under .ensures, ← c .before .before .is-standing .ensures, c .before .if1 .taken)
+    let its = c .before .before .before .movement-under in
+    let stands = c .before .before .is-standing in
+    rw (c .movement-refused .ensures, ← its .ensures, ← stands .ensures, c .before .if1 .taken)
 
 returns-2 : tie.Need-returns-2
 returns-2 c =
-    rw (← c .before .before .before .before .before .before .movement-under .ensures, ← c .before .before .before .before .before .is-standing .ensures, c .before .before .before .before .if1 .left, c .how-many .ensures, c .before .lowest-of .ensures, c .before .before .regime .ensures, c .before .before .before .lacking-clearance .ensures)
+    let work = c .before .before .before .before .before .before .before .work-of in
+    let its = c .before .before .before .before .before .before .movement-under in
+    let stands = c .before .before .before .before .before .is-standing in
+    rw (
+      ← its .ensures,
+      ← stands .ensures,
+      c .before .before .before .before .if1 .left,
+      c .how-many .ensures,
+      c .before .lowest-of .ensures,
+      c .before .before .regime .ensures,
+      c .before .before .before .lacking-clearance .ensures,
+      work .ensures,
+    )
 
 pub movement-in-spec : {M : Type 1} → statement M
 movement-in-spec =
     tie.close
     (tie.spec
+    (λ c κs. search needs)
     (λ c κs. search needs)
     (λ c κs. search needs)
     (λ c κs. search needs)

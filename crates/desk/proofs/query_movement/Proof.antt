@@ -1,4 +1,3 @@
--- `desk::query_movement` meets its contract: each way out is a case of the rule. Assumes nothing.
 use borrow.Author.Tests.{lt-ltb, le-ltb}
 use Rattle.desk.specs.Questions.{movementAnswered}
 use borrow.Author.Needs.{needs}

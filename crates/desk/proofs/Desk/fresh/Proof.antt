@@ -1,4 +1,3 @@
--- `desk::Desk::fresh` meets its contract: the rule, from what each call ensures. Assumes nothing.
 use Rattle.desk.specs.Desk.{freshDesk}
 use borrow.Author.Needs.{needs}
 use Rattle.desk.proofs.Desk.fresh.Statement.{statement}

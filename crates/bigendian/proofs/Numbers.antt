@@ -1,5 +1,4 @@
 -- Laws of the big-endian bytes of a number, once over the width: bounds, both round trips, and a number put together from two.
--- Assumes nothing.
 use mathlib.Core.Path.{_≡_, refl, sym, ap, _∙_}
 use mathlib.Core.List.{List, [], _∷_, _++_}
 use Prim.Native.Nat.{ℕ, zero, suc, _+_, _*_, _/_, _%_, _^_, _<_}
@@ -7,12 +6,8 @@ use native.Mathlib.Nat.{zero-add, add-assoc, add-comm, suc-add, mul-assoc, add-m
 use lib.Dec.{lit<}
 use lib.Pow.{pow-add}
 use lib.Arith.{digits-lt, digits-div, mod-mul}
-use lib.ListN.{length, getD, length-append}
-use Rattle.bigendian.specs.BigEndian.{beValue, beBytes}
-
--- each element of the list is a byte
-abbrev pub Bytes : List ℕ → Type 0
-Bytes s = (i : ℕ) → getD s i 0 < 256
+use lib.ListN.{length, length-append}
+use Rattle.bigendian.specs.BigEndian.{Bytes, beValue, beBytes}
 
 256^-pos : (w : ℕ) → 0 < 256 ^ w
 256^-pos w = one-le-pow w 256 (lit< tt)

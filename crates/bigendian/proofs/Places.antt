@@ -1,7 +1,6 @@
 -- Laws of big-endian numbers at a place of a buffer, once over the width: a wider access is two narrower ones, nothing happens
 -- past the end, and the round trips in place.
--- Assumes nothing.
-use mathlib.Core.Path.{_≡_, refl, sym, ap, _∙_}
+use mathlib.Core.Path.{_≡_, refl, ap, _∙_}
 use mathlib.Core.Logic.{_≢_}
 use mathlib.Core.List.{List, [], _∷_, _++_}
 use Prim.Native.Nat.{ℕ, zero, suc, _+_, _*_, _/_, _%_, _^_, _≤_, _<_}
@@ -10,9 +9,9 @@ use native.Mathlib.Numerals.{add-one, one-add}
 use native.Mathlib.Omega.{arith}
 use lib.Dec.{lit<}
 use lib.ListN.{length, getD, set, length-set, List·getD-eq-default}
-use lib.Seq.{sets, set-out, set-getD, getD-set-same, getD-set-other, length-sets}
-use Rattle.bigendian.specs.BigEndian.{beValue, beBytes, bytesAt, numberAt, storedAt}
-use Rattle.bigendian.proofs.Numbers.{Bytes, length-beBytes, value-append, value-bytes, bytes-value, bytes-add, bytes-mod, value-lt}
+use lib.Seq.{sets, set-out, set-getD, getD-set-same, getD-set-other}
+use Rattle.bigendian.specs.BigEndian.{Bytes, beValue, beBytes, bytesAt, numberAt, storedAt}
+use Rattle.bigendian.proofs.Numbers.{length-beBytes, value-append, value-bytes, bytes-value, bytes-add, bytes-mod, value-lt}
 
 pub length-bytesAt : (s : List ℕ) (at w : ℕ) → length (bytesAt s at w) ≡ w
 length-bytesAt s at zero = refl

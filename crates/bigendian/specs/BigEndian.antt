@@ -1,8 +1,12 @@
 -- Numbers in bytes. Document 01: "Multi-byte numbers are big-endian".
 use mathlib.Core.List.{List, [], _∷_}
-use Prim.Native.Nat.{ℕ, zero, suc, _+_, _*_, _/_, _%_, _^_}
+use Prim.Native.Nat.{ℕ, zero, suc, _+_, _*_, _/_, _%_, _^_, _<_}
 use lib.ListN.{length, getD, set}
 use lib.Seq.{sets}
+
+-- numbers that are bytes
+abbrev pub Bytes : List ℕ → Type 0
+Bytes s = (i : ℕ) → getD s i 0 < 256
 
 -- the number that the bytes are, the first the most significant
 abbrev pub beValue : List ℕ → ℕ

@@ -1,6 +1,5 @@
 -- A desk, encoded and decoded, is the same desk, for every desk that code can hold: eight zones, numbers of their machine types. Bytes
 -- that are a desk's are the encoding of the desk that stands in them.
--- Assumes nothing.
 use mathlib.Core.Path.{_≡_, refl, ap, _∙_}
 use mathlib.Core.Bool.{Bool, true, false, cond}
 use mathlib.Core.Logic.{_↔_}
@@ -9,17 +8,20 @@ use Prim.Native.Nat.{ℕ, zero, suc, _+_}
 use native.Mathlib.Nat.{suc-add, mod-eq-of-lt}
 use lib.Dec.{eqb}
 use lib.ListN.{length, getD, drop}
-use Rattle.bigendian.proofs.Numbers.{Bytes, value-bytes}
+use Rattle.bigendian.specs.BigEndian.{Bytes}
+use Rattle.bigendian.proofs.Numbers.{value-bytes}
 use Rattle.zone.specs.declared.Work.{Work}
 use Rattle.zone.specs.declared.Work.the-variants.{NoWork, Asked, Agreed}
 use Rattle.zone.specs.declared.Movement.{Movement}
 use Rattle.zone.specs.declared.Movement.the-variants.{NoMovement, Standing}
 use Rattle.zone.specs.declared.Zone.{Zone}
 use Rattle.desk.specs.declared.Desk.{Desk}
-use Rattle.desk.specs.Desk.{noZone, zoneAt}
+use Rattle.zone.specs.Zone.{noZone}
+use Rattle.desk.specs.Desk.{zoneAt}
 use Rattle.desk_bytes.specs.Encoding.{workBytes, movementBytes, lastBytes, zoneBytes, zonesFrom, deskBytes, workIn, movementIn, zoneIn, deskIn, isDesk}
 use Rattle.desk_bytes.proofs.Same.{same-exactly}
-use Rattle.desk_bytes.proofs.Typed.{TypedWork, TypedMovement, TypedZone, TypedDesk, decoded-typed}
+use Rattle.desk_bytes.specs.Typed.{TypedWork, TypedMovement, TypedZone, TypedDesk}
+use Rattle.desk_bytes.proofs.Typed.{decoded-typed}
 
 pub length-deskBytes : (d : Desk) → length (deskBytes d) ≡ 520
 unfolding deskBytes zonesFrom zoneBytes workBytes movementBytes lastBytes
@@ -74,7 +76,7 @@ zone-from (suc at) [] = refl
 zone-from (suc at) (b ∷ s) = zone-next b s at ∙ zone-from at s
 
 -- n zones of a list from zone k on
-abbrev zonesAt : List Zone → ℕ → ℕ → List Zone
+abbrev pub zonesAt : List Zone → ℕ → ℕ → List Zone
 zonesAt l k zero = []
 zonesAt l k (suc n) = getD l k noZone ∷ zonesAt l (k + 1) n
 
@@ -82,7 +84,7 @@ zonesAt-next : (z : Zone) (l : List Zone) (k n : ℕ) → zonesAt (z ∷ l) (suc
 zonesAt-next z l k zero = refl
 zonesAt-next z l k (suc n) = rw (suc-add k 1, zonesAt-next z l (k + 1) n)
 
-zonesAt-all : (l : List Zone) → zonesAt l 0 (length l) ≡ l
+pub zonesAt-all : (l : List Zone) → zonesAt l 0 (length l) ≡ l
 zonesAt-all [] = refl
 zonesAt-all (z ∷ l) = ap (λ (r : List Zone). z ∷ r) (zonesAt-next z l 0 (length l) ∙ zonesAt-all l)
 

@@ -1,5 +1,4 @@
 -- The test on two lists of bytes holds exactly when they are the same.
--- Assumes nothing.
 use mathlib.Core.Bool.{Bool, true, false, and-eq-true-iff, false≢true}
 use mathlib.Core.List.{List, [], _∷_}
 use mathlib.Core.Logic.{_↔_}

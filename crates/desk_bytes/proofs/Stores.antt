@@ -1,5 +1,4 @@
 -- Storing part by part: bytes stored one part after the other are the bytes of the whole.
--- Assumes nothing.
 use mathlib.Core.List.{List, _++_}
 use mathlib.Core.Path.{_≡_, sym, ap, _∙_}
 use Prim.Native.Nat.{ℕ, suc, _+_, _*_, _-_, _<_}

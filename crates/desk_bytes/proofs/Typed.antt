@@ -1,46 +1,18 @@
--- Desks whose numbers of several bytes are of their machine types, as those of every desk are that code holds; and that the desk that
--- stands in bytes is one of them.
--- Assumes nothing.
+-- The desk that stands in bytes has numbers of their machine types.
 use mathlib.Core.Path.{_≡_, refl}
 use mathlib.Core.Bool.{Bool, true, false}
 use mathlib.Core.List.{List, [], _∷_, map}
-use Prim.Native.Nat.{ℕ, zero, suc, _+_, _^_, _<_}
+use Prim.Native.Nat.{ℕ, zero, suc, _+_}
 use lib.Dec.{eqb, lit<}
-use lib.ListN.{length, getD}
-use Rattle.bigendian.specs.BigEndian.{byteAt}
-use Rattle.bigendian.proofs.Numbers.{Bytes}
+use lib.ListN.{getD}
+use Rattle.bigendian.specs.BigEndian.{Bytes, byteAt}
 use Rattle.bigendian.proofs.Places.{number-lt}
-use Rattle.zone.specs.declared.Work.{Work}
 use Rattle.zone.specs.declared.Work.the-variants.{NoWork}
-use Rattle.zone.specs.declared.Movement.{Movement}
 use Rattle.zone.specs.declared.Movement.the-variants.{NoMovement}
 use Rattle.zone.specs.declared.Zone.{Zone}
-use Rattle.zone.specs.Work.{formOf, workSet, agreedAt, openSet}
-use Rattle.zone.specs.Movement.{trainOf, clearedSet, efficientSet}
-use Rattle.desk.specs.declared.Desk.{Desk}
-use Rattle.desk.specs.Desk.{noZone, zoneAt}
+use Rattle.zone.specs.Zone.{noZone}
+use Rattle.desk_bytes.specs.Typed.{TypedWork, TypedMovement, TypedZone, TypedDesk}
 use Rattle.desk_bytes.specs.Encoding.{workIn, movementIn, zoneIn, deskIn}
-
--- each number of several bytes is of its machine type
-pub record TypedWork (w : Work) : Type 0 where
-  pub form : formOf w < 2 ^ 32
-  pub set : workSet w < 2 ^ 64
-  pub since : agreedAt w < 2 ^ 32
-  pub opened : openSet w < 2 ^ 64
-
-pub record TypedMovement (v : Movement) : Type 0 where
-  pub train : trainOf v < 2 ^ 32
-  pub cleared : clearedSet v < 2 ^ 64
-  pub efficient : efficientSet v < 2 ^ 64
-
-pub record TypedZone (z : Zone) : Type 0 where
-  pub work : TypedWork (z .work)
-  pub movement : TypedMovement (z .movement)
-  pub time : z .time < 2 ^ 32
-
-pub record TypedDesk (d : Desk) : Type 0 where
-  pub zones : length (d .zones) ≡ 8
-  pub each : (n : ℕ) → TypedZone (zoneAt d n)
 
 -- what stands in bytes has numbers of their machine types
 pub no-work-typed : TypedWork NoWork
@@ -49,7 +21,7 @@ no-work-typed = record { form = lit< tt; set = lit< tt; since = lit< tt; opened 
 pub no-movement-typed : TypedMovement NoMovement
 no-movement-typed = record { train = lit< tt; cleared = lit< tt; efficient = lit< tt }
 
-work-typed : (s : List ℕ) (at : ℕ) → Bytes s → TypedWork (workIn s at)
+pub work-typed : (s : List ℕ) (at : ℕ) → Bytes s → TypedWork (workIn s at)
 unfolding workIn
 work-typed s at byte = go (eqb (byteAt s at) 1) refl (eqb (byteAt s at) 2) refl
   where
@@ -67,7 +39,7 @@ work-typed s at byte = go (eqb (byteAt s at) 1) refl (eqb (byteAt s at) 2) refl
         })
     go false p false q = rw (p, q) no-work-typed
 
-movement-typed : (s : List ℕ) (at : ℕ) → Bytes s → TypedMovement (movementIn s at)
+pub movement-typed : (s : List ℕ) (at : ℕ) → Bytes s → TypedMovement (movementIn s at)
 unfolding movementIn
 movement-typed s at byte = go (eqb (byteAt s at) 1) refl
   where

@@ -1,9 +1,9 @@
--- A desk as 520 bytes, and the desk that stands in bytes. Numbers are big-endian, as document 01 has them; fields of work or of a movement
--- that the zone does not have are 0.
+-- A desk as 520 bytes, and the desk that stands in bytes. Numbers are big-endian, as document 01 has them; fields that the
+-- stage of the work, or a zone without a movement, does not have are 0.
 use mathlib.Core.Bool.{Bool, true, false, cond, _&&_}
 use mathlib.Core.List.{List, [], _∷_, _++_}
-use Prim.Native.Nat.{ℕ, zero, suc, _+_}
-use lib.Dec.{eqb}
+use Prim.Native.Nat.{ℕ, zero, suc, _+_, _*_}
+use lib.Dec.{eqb, ltb}
 use lib.ListN.{replicate}
 use lib.Seq.{sets}
 use Rattle.bigendian.specs.BigEndian.{byteAt, numberAt, beBytes}
@@ -75,6 +75,10 @@ deskBytes d = headBytes ++ zonesFrom d 0 8
 -- bytes with a desk stored at their start; a byte past their end is not stored
 abbrev pub storedDesk : List ℕ → Desk → List ℕ
 storedDesk s d = sets s 0 (deskBytes d)
+
+-- bytes with zone k stored in its place; nothing from 8 on
+abbrev pub storedZone : List ℕ → ℕ → Zone → List ℕ
+storedZone s k z = cond (ltb k 8) (sets s (8 + 64 * k) (zoneBytes z)) s
 
 -- the work that stands in the bytes from a place on; a stage that is not 1 or 2 as no work
 unfoldable pub workIn : List ℕ → ℕ → Work

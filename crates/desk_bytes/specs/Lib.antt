@@ -1,1 +1,3 @@
 pub mod Encoding
+pub mod StandAt
+pub mod Typed

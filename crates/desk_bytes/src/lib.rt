@@ -1,9 +1,16 @@
-// A desk in 520 bytes: its encoding, and the desk that stands in bytes. The layout is in specs/Encoding.antt; proofs/RoundTrip.antt has
-// that a desk, encoded and decoded, is the same desk. Every function takes any bytes and any desk.
+// A desk in 520 bytes: its encoding, the desk that stands in bytes, and one zone of it read or
+// stored alone. The layout is in specs/Encoding.antt; proofs/RoundTrip.antt has that a desk,
+// encoded and decoded, is the same desk, proofs/ZonePlaces.antt that a zone stored is put into it.
+// Every function takes any bytes and any desk.
 ghost use mathlib.Core.Path.{_≡_};
-ghost use Rattle.desk_bytes.specs.Encoding.{deskBytes, storedDesk, deskIn, sameBytes};
+ghost use Rattle.desk.specs.Desk.{zoneAt};
+ghost use Rattle.desk_bytes.specs.Encoding.{storedDesk, storedZone, deskIn, isDesk};
 use desk::Desk;
+use zone::Movement;
+use zone::Work;
+use zone::Zone;
 
+mod checking;
 mod reading;
 mod storing;
 
@@ -25,11 +32,36 @@ pub fn decode(s: &[u8]) -> Desk
     reading::desk_in(s)
 }
 
-// Whether the bytes are those of the desk.
-pub fn is_encoding(s: &[u8], d: Desk) -> bool
-    ensures { λ r. ⌜ r ≡ sameBytes (now (s .entry)) (deskBytes d) ⌝ }
+// Zone k of the desk that stands in the bytes; from 8 on a zone with nothing in it.
+pub fn zone_at(s: &[u8], k: usize) -> Zone
+    ensures { λ r. ⌜ r ≡ zoneAt (deskIn (now (s .entry))) k ⌝ }
 {
-    let mut own = [0u8; LENGTH];
-    encode(d, &mut own);
-    check::same(s, &own)
+    if k < Desk::ZONES {
+        return reading::zone_in(s, 8 + 64 * k);
+    }
+    Zone {
+        work: Work::NoWork,
+        movement: Movement::NoMovement,
+        recorder: false,
+        time: 0,
+    }
+}
+
+// Stores zone k in its place, and nothing from 8 on; a byte past the end is not stored.
+pub fn put_zone_at(z: Zone, s: &mut [u8], k: usize)
+    ensures { λ r. ⌜ now (s .exit) ≡ storedZone (now (s .entry)) k z ⌝ }
+{
+    if k < Desk::ZONES {
+        storing::put_zone(z, s, 8 + 64 * k);
+    }
+}
+
+// Whether the bytes are those of a desk.
+pub fn is_desk(s: &[u8]) -> bool
+    ensures { λ r. ⌜ r ≡ isDesk (now (s .entry)) ⌝ }
+{
+    if s.len() != LENGTH {
+        return false;
+    }
+    (bigendian::get64(s, 0) == storing::HEAD) & checking::zones_kept(s)
 }

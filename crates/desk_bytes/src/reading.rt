@@ -50,7 +50,7 @@ fn movement_in(s: &[u8], at: usize) -> Movement
     Movement::NoMovement
 }
 
-fn zone_in(s: &[u8], at: usize) -> Zone
+pub fn zone_in(s: &[u8], at: usize) -> Zone
     requires { ⌜ at < 2048 ⌝ }
     ensures { λ r. ⌜ r ≡ zoneIn (now (s .entry)) at ⌝ }
 {

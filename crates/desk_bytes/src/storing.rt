@@ -19,7 +19,7 @@ use zone::Work;
 use zone::Zone;
 
 // The version, 1, in the first of 8 bytes.
-const HEAD: u64 = 72057594037927936;
+pub const HEAD: u64 = 72057594037927936;
 
 pub fn put_head(s: &mut [u8])
     ensures { λ r. ⌜ now (s .exit) ≡ sets (now (s .entry)) 0 headBytes ⌝ }
@@ -112,7 +112,7 @@ fn put_last(working: bool, time: u32, s: &mut [u8], at: usize)
     bigendian::put16(s, at + 13, 0);
 }
 
-fn put_zone(z: Zone, s: &mut [u8], at: usize)
+pub fn put_zone(z: Zone, s: &mut [u8], at: usize)
     requires { ⌜ at < 2048 ⌝ }
     ensures { λ r. ⌜ now (s .exit) ≡ sets (now (s .entry)) at (zoneBytes z) ⌝ }
 {

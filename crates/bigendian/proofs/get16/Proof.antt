@@ -1,4 +1,4 @@
--- `bigendian::get16` meets its contract: past the end by `number-past`; else two bytes. Assumes nothing.
+-- Past the end by `number-past`; else two bytes.
 use mathlib.Core.Path.{sym}
 use denote.Ref.{now}
 use Rattle.bigendian.proofs.Places.{number-past}

@@ -1,4 +1,4 @@
--- `bigendian::put16` meets its contract: past the end by `stored-past`; else two bytes. Assumes nothing.
+-- Past the end by `stored-past`; else two bytes.
 use mathlib.Core.Path.{_≡_, sym, ap, _∙_}
 use mathlib.Core.List.{List}
 use Prim.Native.Nat.{ℕ, _+_, _/_, _%_}

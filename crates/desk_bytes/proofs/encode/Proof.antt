@@ -1,4 +1,4 @@
--- `desk_bytes::encode` meets its contract: the zones are stored where the head ends. Assumes nothing.
+-- The zones are stored where the head ends.
 use denote.Ref.{now}
 use mathlib.Core.Path.{refl}
 use Rattle.desk_bytes.specs.Encoding.{headBytes, zonesFrom, deskBytes}

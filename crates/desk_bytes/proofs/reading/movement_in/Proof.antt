@@ -1,4 +1,3 @@
--- `desk_bytes::reading::movement_in` meets its contract: each way out is a case of the rule. Assumes nothing.
 use borrow.Author.Tests.{eq-eqb, ne-eqb}
 use Rattle.desk_bytes.specs.Encoding.{movementIn}
 use borrow.Author.Needs.{needs}

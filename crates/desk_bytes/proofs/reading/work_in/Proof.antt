@@ -1,4 +1,4 @@
--- `desk_bytes::reading::work_in` meets its contract: each stage is a case of the rule. Assumes nothing.
+-- Each stage is a case of the rule.
 use borrow.Author.Tests.{eq-eqb, ne-eqb}
 use Rattle.desk_bytes.specs.Encoding.{workIn}
 use borrow.Author.Needs.{needs}

@@ -1,4 +1,4 @@
--- `desk_bytes::storing::put_last` meets its contract: each field is stored where the one before ends. Assumes nothing.
+-- Each field is stored where the one before ends.
 use denote.Ref.{now}
 use mathlib.Core.List.{[], _∷_, _++_}
 use mathlib.Core.Path.{refl, ap, _∙_}

@@ -1,4 +1,4 @@
--- `desk_bytes::storing::put_movement` meets its contract: each case stores its fields. Assumes nothing.
+-- Each case stores its fields.
 use denote.Ref.{now}
 use mathlib.Core.Path.{sym, ap, _∙_}
 use lib.Seq.{sets}

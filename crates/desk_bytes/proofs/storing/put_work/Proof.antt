@@ -1,4 +1,4 @@
--- `desk_bytes::storing::put_work` meets its contract: each stage stores its fields. Assumes nothing.
+-- Each stage stores its fields.
 use denote.Ref.{now}
 use mathlib.Core.Path.{sym, ap, _∙_}
 use lib.Seq.{sets}

@@ -1,4 +1,4 @@
--- `desk_bytes::storing::put_zone` meets its contract: each part is stored where the one before ends. Assumes nothing.
+-- Each part is stored where the one before ends.
 use denote.Ref.{now}
 use mathlib.Core.List.{_++_}
 use mathlib.Core.Path.{refl}

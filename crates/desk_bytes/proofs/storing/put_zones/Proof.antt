@@ -1,8 +1,7 @@
--- `desk_bytes::storing::put_zones` meets its contract: the invariant says that storing what is left gives the whole. Assumes nothing.
-use denote.Ref.{now}
+-- The invariant says that storing what is left gives the whole.
 use mathlib.Core.List.{List}
 use mathlib.Core.Path.{_≡_, refl, sym, ap, _∙_}
-use Prim.Native.Nat.{ℕ, _+_, _*_, _-_, _≤_, _<_}
+use Prim.Native.Nat.{ℕ, _+_, _*_, _-_, _≤_}
 use native.Mathlib.Omega.{arith}
 use lib.ListN.{length}
 use lib.Seq.{sets, length-sets}

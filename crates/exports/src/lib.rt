@@ -5,7 +5,7 @@ ghost use mathlib.Core.Path.{_≡_};
 ghost use Rattle.message.specs.Record.{readRecord, written};
 ghost use Rattle.sheet.specs.Sheet.{readSheet};
 ghost use Rattle.journal.specs.Journal.{journalNumber, counted, recordNumber, added};
-ghost use Rattle.history.specs.Replay.{replayed, movementReplayed, workReplayed};
+ghost use Rattle.replay.specs.Replay.{replayed, movementReplayed, workReplayed};
 ghost use Rattle.packed.specs.Packed.{movementPacked, workPacked};
 ghost use Rattle.exports.specs.Packed.{sheetPacked, recordPacked};
 use message::Message;
@@ -68,7 +68,7 @@ pub extern "C" fn desk_write_record(
 pub extern "C" fn desk_replay(sheet: &[u8], journal: &[u8], answers: &mut [u8]) -> u8
     ensures { λ r. ⌜ record { code = r; bytes = now (answers .exit) } ≡ replayed (now (sheet .entry)) (now (journal .entry)) (now (answers .entry)) ⌝ }
 {
-    history::replay(sheet, journal, answers)
+    replay::replay(sheet, journal, answers)
 }
 
 // The movement question after a journal: the code, the regime, the lowest turnout lacking a clearance, how many lack one, a byte each.
@@ -76,7 +76,7 @@ pub extern "C" fn desk_replay(sheet: &[u8], journal: &[u8], answers: &mut [u8]) 
 pub extern "C" fn desk_movement(sheet: &[u8], journal: &[u8], zone: u8, train: u32) -> u64
     ensures { λ r. ⌜ r ≡ movementPacked (movementReplayed (now (sheet .entry)) (now (journal .entry)) zone train) ⌝ }
 {
-    packed::movement_packed(history::replay_movement(sheet, journal, zone, train))
+    packed::movement_packed(replay::replay_movement(sheet, journal, zone, train))
 }
 
 // The work question after a journal: the code, and 256 if the turnout is open to work.
@@ -84,7 +84,7 @@ pub extern "C" fn desk_movement(sheet: &[u8], journal: &[u8], zone: u8, train: u
 pub extern "C" fn desk_work(sheet: &[u8], journal: &[u8], turnout: u8) -> u32
     ensures { λ r. ⌜ r ≡ workPacked (workReplayed (now (sheet .entry)) (now (journal .entry)) turnout) ⌝ }
 {
-    packed::work_packed(history::replay_work(sheet, journal, turnout))
+    packed::work_packed(replay::replay_work(sheet, journal, turnout))
 }
 
 // 0 if the bytes are a journal, else 30.

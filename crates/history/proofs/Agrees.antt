@@ -1,7 +1,6 @@
 -- The exact relation between a zone's state and its history: work, what is open, the movement, what is cleared, each as document 01's
 -- history has it. A public law: the theorem, and later ones on zones and journals, stand on it.
--- Assumes nothing.
-use mathlib.Core.Bool.{Bool, true, false, not, _&&_, _||_, and-true, and-false, or-false, true≢false}
+use mathlib.Core.Bool.{Bool, true, false, _||_, and-true, and-false, or-false, true≢false}
 use mathlib.Core.List.{List, []}
 use mathlib.Core.Path.{_≡_, refl, sym, ap, _∙_}
 use Prim.Native.Nat.{ℕ, _<_}
@@ -19,7 +18,7 @@ use Rattle.zone.specs.declared.Movement.the-variants.{NoMovement, Standing}
 use Rattle.zone.specs.Work.{workSet, agreedSet, openSet}
 use Rattle.zone.specs.Movement.{clearedSet}
 use Rattle.history.specs.Since.{Since, never, since, afterLast, any}
-use Rattle.history.specs.History.{is, clears, ends, opens, leaves, asking, agreement, askedIn, underAgreedWork, opened, openToWork, standing, clearsWell}
+use Rattle.history.specs.History.{is, clears, ends, leaves, asking, agreement, askedIn, underAgreedWork, opened, openToWork, standing, clearsWell}
 use Rattle.history.proofs.Append.{_then_, extend, any-more}
 use Rattle.history.proofs.More.{asking-on, askedIn-on, agreement-on, under-on, open-on, standing-on}
 
@@ -76,6 +75,15 @@ nothing-open H none t = rw (none t) (sym (has-zero t))
 pub is-kind : (m : Message) (k j : ℕ) → m .kind ≡ k → is j m ≡ eqb k j
 is-kind m k j e = ap (λ (x : ℕ). eqb x j) e
 
+-- two tests of which neither holds
+pub neither : (a b : Bool) → (a || b) ≡ false → (a ≡ false) × (b ≡ false)
+neither false b e = (refl, e)
+neither true b e = absurd (true≢false e)
+
+-- the kinds that the history's words on work look at
+abbrev pub touchesWork : ℕ → Bool
+touchesWork k = eqb k 1 || eqb k 2 || eqb k 4 || eqb k 6 || eqb k 10 || eqb k 11
+
 -- a message that does nothing to the work
 pub record NotWork (m : Message) : Type 0 where
   pub one : is 1 m ≡ false
@@ -84,6 +92,22 @@ pub record NotWork (m : Message) : Type 0 where
   pub six : is 6 m ≡ false
   pub ten : is 10 m ≡ false
   pub eleven : is 11 m ≡ false
+
+pub not-work : (m : Message) (k : ℕ) → m .kind ≡ k → touchesWork k ≡ false → NotWork m
+not-work m k e calm =
+    let to-10 = neither (eqb k 1 || eqb k 2 || eqb k 4 || eqb k 6 || eqb k 10) (eqb k 11) calm in
+    let to-6 = neither (eqb k 1 || eqb k 2 || eqb k 4 || eqb k 6) (eqb k 10) (to-10 .0) in
+    let to-4 = neither (eqb k 1 || eqb k 2 || eqb k 4) (eqb k 6) (to-6 .0) in
+    let to-2 = neither (eqb k 1 || eqb k 2) (eqb k 4) (to-4 .0) in
+    let first = neither (eqb k 1) (eqb k 2) (to-2 .0) in
+    record {
+      one = is-kind m k 1 e ∙ first .0;
+      two = is-kind m k 2 e ∙ first .1;
+      four = is-kind m k 4 e ∙ to-2 .1;
+      six = is-kind m k 6 e ∙ to-4 .1;
+      ten = is-kind m k 10 e ∙ to-6 .1;
+      eleven = is-kind m k 11 e ∙ to-10 .1;
+    }
 
 pub work-kept : (H : List Message) (m : Message) (w : Work) → is 1 m ≡ false → is 2 m ≡ false → ((t : ℕ) → ends t m ≡ false) → WorkAgrees H w → WorkAgrees (H then m) w
 work-kept H m NoWork one two none a = λ t. under-on H m one two t ∙ rw (a t)
@@ -99,12 +123,28 @@ open-kept H m c t =
     open-on H m (c .one) (c .two) t
     ∙ rw (c .ten, c .eleven, c .four, c .six, and-true (underAgreedWork t H), and-true (opened t (agreement H)))
 
+-- the kinds that the history's words on movements look at
+abbrev pub touchesMovement : ℕ → Bool
+touchesMovement k = eqb k 5 || eqb k 6 || eqb k 8 || eqb k 9
+
 -- a message that does nothing to the movement
 pub record NotMovement (m : Message) : Type 0 where
   pub five : is 5 m ≡ false
   pub six : is 6 m ≡ false
   pub eight : is 8 m ≡ false
   pub nine : is 9 m ≡ false
+
+pub not-movement : (m : Message) (k : ℕ) → m .kind ≡ k → touchesMovement k ≡ false → NotMovement m
+not-movement m k e calm =
+    let to-8 = neither (eqb k 5 || eqb k 6 || eqb k 8) (eqb k 9) calm in
+    let to-6 = neither (eqb k 5 || eqb k 6) (eqb k 8) (to-8 .0) in
+    let first = neither (eqb k 5) (eqb k 6) (to-6 .0) in
+    record {
+      five = is-kind m k 5 e ∙ first .0;
+      six = is-kind m k 6 e ∙ first .1;
+      eight = is-kind m k 8 e ∙ to-6 .1;
+      nine = is-kind m k 9 e ∙ to-8 .1;
+    }
 
 stays : (m : Message) → NotMovement m → leaves m ≡ false
 stays m c = rw (c .eight, c .nine)

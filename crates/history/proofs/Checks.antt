@@ -1,15 +1,14 @@
 -- What an accepted message tells: each check of its row failed; a clearance names a turnout below 64.
--- Assumes nothing.
 use mathlib.Core.Bool.{Bool, true, false, cond, not, _&&_, and-eq-true-iff, true≢false}
 use mathlib.Core.List.{List, [], _∷_}
-use mathlib.Core.Path.{_≡_, refl, sym, ap, _∙_}
+use mathlib.Core.Path.{_≡_, refl, sym, _∙_}
 use Prim.Native.Nat.{ℕ, _≤_, _<_}
 use native.Mathlib.Omega.{arith}
 use borrow.Author.Tests.{eq-eqb, leb-true, not-true}
 use lib.Dec.{eqb, leb}
 use Rattle.message.specs.declared.Message.{Message}
 use Rattle.message.specs.Fields.{fieldNumber, fieldsKept, idKept, isKind, named, namedKept, setKept, detailsKept, clearanceSpans, details, inSpan, _to_}
-use Rattle.zone.specs.Kinds.{Check, _gives_, first}
+use Rattle.rules.specs.Kinds.{Check, _gives_, first}
 
 -- the test of each check is false
 abbrev pub Passed : List Check → Type 0

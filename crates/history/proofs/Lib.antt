@@ -1,5 +1,6 @@
 pub mod Append
 pub mod More
+pub mod Words
 pub mod Checks
 pub mod Agrees
 pub mod Moves
@@ -7,7 +8,6 @@ pub mod Works
 pub mod Steps
 pub mod Hearing
 pub mod Runs
+pub mod Standing
 pub mod Theorem
-pub mod StationK
-pub mod OtherDesks
-pub mod Replaying
+pub mod Exactly

@@ -1,12 +1,11 @@
 -- One more message of a zone: what becomes of document 01's history, whatever the list.
--- Assumes nothing.
 use mathlib.Core.Bool.{Bool, true, false, cond, not, _&&_, _||_, and-true, and-false, or-true, or-false, and-assoc}
-use mathlib.Core.List.{List, [], _∷_, _++_}
+use mathlib.Core.List.{List, []}
 use mathlib.Core.Path.{_≡_, refl, sym, ap, ap₂, _∙_}
 use Prim.Native.Nat.{ℕ}
 use Rattle.sets.specs.Sets.{has}
 use Rattle.message.specs.declared.Message.{Message}
-use Rattle.history.specs.Since.{Since, never, since, orElse, afterLast, afterFirst, any, anyThenNone}
+use Rattle.history.specs.Since.{Since, never, since, afterLast, afterFirst, any, anyThenNone}
 use Rattle.history.specs.History.{is, clears, opens, ends, leaves, asking, agreedAfter, agreement, lasting, askedIn, underAgreedWork, opened, openToWork, unlessLeft, standing}
 use Rattle.history.proofs.Append.{_then_, extend, orElse-never, last-more, first-more, any-more, then-more}
 

@@ -1,26 +1,24 @@
 -- One train's movement and the messages of that train: one more of them, kind by kind. Nothing here knows of other trains or of work.
--- Assumes nothing.
 use mathlib.Core.Bool.{Bool, true, false, cond, not, _&&_, _||_, and-true, and-false, and-eq-true-iff, true≢false}
 use mathlib.Core.List.{List, []}
 use mathlib.Core.Path.{_≡_, refl, sym, ap, ap₂, subst, _∙_}
 use Prim.Native.Nat.{ℕ, _<_}
-use borrow.Author.Tests.{eqb-true, eqb-false, eq-eqb, ne-eqb, lt-ltb, not-true, not-false}
+use borrow.Author.Tests.{eqb-true, eqb-false, eq-eqb, ne-eqb, lt-ltb, not-false}
 use lib.Dec.{eqb}
-use Rattle.sets.specs.Sets.{has, single, union}
+use Rattle.sets.specs.Sets.{has, single}
 use Rattle.sets.proofs.Membership.{has-zero, has-or, has-single}
 use Rattle.message.specs.declared.Message.{Message}
 use Rattle.station.specs.declared.Station.{Station}
 use Rattle.station.specs.Station.{theRoute, driveOf}
-use Rattle.zone.specs.declared.Passage.{Passage}
 use Rattle.zone.specs.declared.Movement.{Movement}
 use Rattle.zone.specs.declared.Movement.the-variants.{NoMovement, Standing}
 use Rattle.zone.specs.Movement.{underTrain, routeFor, movementFor, clearedAt, orderedAs}
-use Rattle.zone.specs.Clearance.{isEfficient, positionFits, driveFits, clampFits, clearanceFits}
+use Rattle.rules.specs.Clearance.{isEfficient, positionFits, driveFits, clampFits, clearanceFits}
 use Rattle.history.specs.Since.{Since, any}
 use Rattle.history.specs.History.{is, clears, leaves, clearsWell}
 use Rattle.history.proofs.Append.{_then_, extend, any-more}
 use Rattle.history.proofs.More.{standing-asked, standing-left, standing-on}
-use Rattle.history.proofs.Agrees.{Stands, MovementAgrees, is-kind, NotMovement, movement-kept}
+use Rattle.history.proofs.Agrees.{MovementAgrees, is-kind, not-movement, movement-kept}
 
 eqb-sym : (x y : ℕ) → eqb x y ≡ eqb y x
 eqb-sym x y = go (eqb x y) refl
@@ -53,7 +51,7 @@ module _ (st : Station) (L : List Message) (m : Message) where
 
   -- 7
   pub ordered-agrees : (v : Movement) → m .kind ≡ 7 → MovementAgrees st L v → MovementAgrees st (L then m) (orderedAs v (m .d0))
-  ordered-agrees v e a = ordered v (movement-kept st L m v (record { five = is-kind m 7 5 e; six = is-kind m 7 6 e; eight = is-kind m 7 8 e; nine = is-kind m 7 9 e }) a)
+  ordered-agrees v e a = ordered v (movement-kept st L m v (not-movement m 7 e refl) a)
     where
       ordered : (v : Movement) → MovementAgrees st (L then m) v → MovementAgrees st (L then m) (orderedAs v (m .d0))
       ordered NoMovement a = a

@@ -1,10 +1,9 @@
 -- A list of hearings: every zone agrees with its history after it, and refused inputs leave no trace.
--- Assumes nothing.
 use mathlib.Core.Bool.{Bool, true, false, cond}
 use mathlib.Core.List.{List, [], _∷_, _++_, append-nil, append-assoc}
 use mathlib.Core.Logic.{_≢_}
 use mathlib.Core.Path.{_≡_, refl, sym, ap, subst, _∙_}
-use Prim.Native.Nat.{ℕ, zero, suc, _≤_, _<_, min}
+use Prim.Native.Nat.{ℕ, zero, suc, _≤_}
 use native.Mathlib.Omega.{arith}
 use native.Mathlib.Nat.{lt-irrefl}
 use borrow.Author.Tests.{eqb-true, eqb-false, ne-eqb}
@@ -17,14 +16,15 @@ use Rattle.station.specs.Station.{zoneCount}
 use Rattle.zone.specs.declared.Zone.{Zone}
 use Rattle.zone.specs.declared.Work.the-variants.{NoWork}
 use Rattle.zone.specs.declared.Movement.the-variants.{NoMovement}
-use Rattle.zone.specs.Kinds.{freshZone, zoneAfter}
+use Rattle.zone.specs.Zone.{freshZone, noZone}
+use Rattle.rules.specs.Kinds.{zoneAfter}
 use Rattle.desk.specs.declared.Desk.{Desk}
-use Rattle.desk.specs.Desk.{freshDesk, zoneAt, noZone}
+use Rattle.desk.specs.Desk.{freshDesk, zoneAt}
 use Rattle.history.specs.Lists.{Input, messageOf, Reply, after, answers, accepted, kept, keptAnswers, ofZone, isAccepted}
 use Rattle.history.specs.Demand3.{ours, hears}
 use Rattle.history.proofs.Append.{_then_}
 use Rattle.history.proofs.Agrees.{Agrees, agrees-fresh}
-use Rattle.history.proofs.Hearing.{step, Taken, hear-accepted, hear-refused}
+use Rattle.history.proofs.Hearing.{step, Taken, hear-accepted, same-state}
 
 -- every zone of the desk agrees with its history, and what is no zone of the station has none
 pub record AllAgree (st : Station) (d : Desk) (H : ℕ → List Message) : Type 0 where
@@ -100,7 +100,7 @@ module _ (st : Station) where
       go false p later =
           rewritten (after ours st d′ inputs) (λ n. H n ++ ofZone n (accepted ours st d′ inputs)) (λ n. H n ++ ofZone n (accepted ours st d (i ∷ inputs)))
           (λ n. rw p)
-          (later d′ H (rw (hear-refused st d i p) a))
+          (later d′ H (rw (same-state st d i p) a))
 
   fresh-zone : (k n : ℕ) → Agrees st n [] (getD (replicate k freshZone) n noZone .work) (getD (replicate k freshZone) n noZone .movement)
   fresh-zone k n = rw (none k n .0, none k n .1) (agrees-fresh st n)
@@ -125,7 +125,7 @@ module _ (st : Station) where
           → after ours st (hears st d i .state) (kept ours st (hears st d i .state) inputs) ≡ after ours st (hears st d i .state) inputs
           → after ours st d (kept ours st d (i ∷ inputs)) ≡ after ours st d (i ∷ inputs)
       go true p later = rw p later
-      go false p later = rw p (ap (λ (x : Desk). after ours st x (kept ours st (hears st d i .state) inputs)) (sym (hear-refused st d i p)) ∙ later)
+      go false p later = rw p (ap (λ (x : Desk). after ours st x (kept ours st (hears st d i .state) inputs)) (sym (same-state st d i p)) ∙ later)
 
   -- and the inputs kept get the same answers
   pub same-answers : (inputs : List Input) (d : Desk) → answers ours st d (kept ours st d inputs) ≡ keptAnswers ours st d inputs
@@ -137,4 +137,4 @@ module _ (st : Station) where
           → answers ours st (hears st d i .state) (kept ours st (hears st d i .state) inputs) ≡ keptAnswers ours st (hears st d i .state) inputs
           → answers ours st d (kept ours st d (i ∷ inputs)) ≡ keptAnswers ours st d (i ∷ inputs)
       go true p later = rw p (ap (λ (l : List Reply). hears st d i .reply ∷ l) later)
-      go false p later = rw p (ap (λ (x : Desk). answers ours st x (kept ours st (hears st d i .state) inputs)) (sym (hear-refused st d i p)) ∙ later)
+      go false p later = rw p (ap (λ (x : Desk). answers ours st x (kept ours st (hears st d i .state) inputs)) (sym (same-state st d i p)) ∙ later)

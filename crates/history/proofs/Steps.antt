@@ -1,47 +1,28 @@
 -- One more accepted message: the zone still agrees with its history, kind by kind.
--- Assumes nothing.
-use mathlib.Core.Bool.{Bool, true, false, cond, not, _&&_, _||_, and-true, and-false, or-false, or-true, and-assoc, and-comm, and-eq-true-iff, true≢false, false≢true}
-use mathlib.Core.List.{List, [], _∷_}
-use mathlib.Core.Path.{_≡_, refl, sym, ap, ap₂, subst, _∙_}
-use Prim.Native.Nat.{ℕ, _≤_, _<_, min}
-use native.Mathlib.Omega.{arith}
-use borrow.Author.Tests.{ltb-true, eqb-true, eqb-false, eq-eqb, ne-eqb, lt-ltb, not-true, not-false}
-use lib.Dec.{eqb, ltb}
-use lib.Bits.{bitAnd}
-use Rattle.sets.specs.Sets.{has, single, union, without, within, isEmpty, overlaps}
-use Rattle.sets.proofs.Membership.{has-zero, has-and, has-or, has-without, has-single, has-setOf}
-use Rattle.sets.proofs.Members.{within-member, disjoint-member}
+use mathlib.Core.Bool.{Bool, true, false, not, _||_, or-false, and-eq-true-iff, true≢false}
+use mathlib.Core.List.{List}
+use mathlib.Core.Path.{_≡_, refl, sym, _∙_}
+use Prim.Native.Nat.{ℕ, _<_}
+use borrow.Author.Tests.{eqb-true, not-true, not-false}
+use Rattle.sets.specs.Sets.{has, single, union, overlaps}
+use Rattle.sets.proofs.Membership.{has-and, has-or}
+use Rattle.sets.proofs.Members.{disjoint-member}
 use Rattle.message.specs.declared.Message.{Message}
-use Rattle.message.specs.Fields.{fieldNumber}
 use Rattle.station.specs.declared.Station.{Station}
-use Rattle.station.specs.Station.{turnoutCount, zoneOf, zoneTurnouts, splits, theRoute, driveOf}
-use Rattle.zone.specs.declared.Agreement.{Agreement}
 use Rattle.zone.specs.declared.Work.{Work}
 use Rattle.zone.specs.declared.Work.the-variants.{NoWork, Asked, Agreed}
-use Rattle.zone.specs.declared.Passage.{Passage}
 use Rattle.zone.specs.declared.Movement.{Movement}
 use Rattle.zone.specs.declared.Movement.the-variants.{NoMovement, Standing}
 use Rattle.zone.specs.Work.{hasWork, isAgreed, underForm, workSet, agreedSet, openSet, askedFor, agreedFrom, openedTo, shutTo, restoredOf}
-use Rattle.zone.specs.Movement.{isStanding, underTrain, clearedSet, namedTurnouts, workedTurnouts, routeFor, movementFor, clearedAt, orderedAs}
-use Rattle.zone.specs.Clearance.{isEfficient, positionFits, driveFits, clampFits, clearanceFits}
-use Rattle.zone.specs.Kinds.{badRequest, badDetection}
-use Rattle.history.specs.Since.{Since, never, since, any, afterFirst}
-use Rattle.history.specs.History.{is, clears, ends, opens, leaves, asking, agreement, agreedAfter, askedIn, underAgreedWork, opened, openToWork, standing, clearsWell}
-use Rattle.history.proofs.Append.{_then_, extend, any-more}
-use Rattle.history.proofs.More.{asking-anew, under-on, open-on, under-agreed, open-agreed, standing-asked, standing-left, standing-on}
+use Rattle.zone.specs.Movement.{underTrain, clearedSet, namedTurnouts, workedTurnouts, routeFor, movementFor, clearedAt, orderedAs}
+use Rattle.rules.specs.Clearance.{isEfficient, clearanceFits}
+use Rattle.rules.specs.Kinds.{badRequest, badDetection}
+use Rattle.history.specs.History.{opened}
+use Rattle.history.proofs.Append.{_then_}
 use Rattle.history.proofs.Works as works
-use Rattle.history.proofs.Works.{not-work, shut-open, agreed-in, left-in}
+use Rattle.history.proofs.Works.{shut-open, agreed-in, left-in}
 use Rattle.history.proofs.Moves.{alone, asked-agrees, left-agrees, ordered-agrees, cleared-agrees}
-use Rattle.history.proofs.Agrees.{InZone, WorkAgrees, Stands, MovementAgrees, Works, Agrees, is-kind, NotWork, NotMovement, movement-kept, no-member}
-
--- the kinds that leave the movement alone
-not-movement : (m : Message) (k : ℕ) → m .kind ≡ k → eqb k 5 ≡ false → eqb k 6 ≡ false → eqb k 8 ≡ false → eqb k 9 ≡ false → NotMovement m
-not-movement m k e five six eight nine = record {
-  five = is-kind m k 5 e ∙ five;
-  six = is-kind m k 6 e ∙ six;
-  eight = is-kind m k 8 e ∙ eight;
-  nine = is-kind m k 9 e ∙ nine;
-}
+use Rattle.history.proofs.Agrees.{InZone, MovementAgrees, Works, Agrees, is-kind, NotWork, not-work, NotMovement, not-movement, movement-kept, no-member}
 
 -- what is open after a kind of work was open, or is opened by it
 unopened : (w : Work) (time t : ℕ) → isAgreed w ≡ false → has (openSet (agreedFrom w time)) t ≡ true → ⊥
@@ -90,23 +71,23 @@ module _ (st : Station) (n : ℕ) (H : List Message) (m : Message) where
   pub step1 : (w : Work) (v : Movement) → m .kind ≡ 1 → m .zone ≡ n → hasWork w ≡ false → badRequest st (m .zone) (m .a) ≡ false
       → Agrees st n H w v → Agrees st n (H then m) (askedFor (m .id) (m .d0) (m .a)) v
   step1 w v e zone none good a =
-      at-work (askedFor (m .id) (m .d0) (m .a)) v (not-movement m 1 e refl refl refl refl) (works.step1 st n H m w e zone none good (a .works)) (λ t h c. no-member t h) a
+      at-work (askedFor (m .id) (m .d0) (m .a)) v (not-movement m 1 e refl) (works.step1 st n H m w e zone none good (a .works)) (λ t h c. no-member t h) a
 
   pub step2 : (w : Work) (v : Movement) → m .kind ≡ 2 → not (underForm w (m .id)) ≡ false → isAgreed w ≡ false
       → Agrees st n H w v → Agrees st n (H then m) (agreedFrom w (m .time)) v
   step2 w v e none fresh a =
-      at-work (agreedFrom w (m .time)) v (not-movement m 2 e refl refl refl refl) (works.step2 st n H m w e none fresh (a .works)) (λ t h c. unopened w (m .time) t fresh h) a
+      at-work (agreedFrom w (m .time)) v (not-movement m 2 e refl) (works.step2 st n H m w e none fresh (a .works)) (λ t h c. unopened w (m .time) t fresh h) a
 
   pub step3 : (w : Work) (v : Movement) → m .kind ≡ 3 → isAgreed w ≡ false → Agrees st n H w v → Agrees st n (H then m) NoWork v
-  step3 w v e fresh a = at-work NoWork v (not-movement m 3 e refl refl refl refl) (works.step3 st n H m w e fresh (a .works)) (λ t h c. no-member t h) a
+  step3 w v e fresh a = at-work NoWork v (not-movement m 3 e refl) (works.step3 st n H m w e fresh (a .works)) (λ t h c. no-member t h) a
 
   pub step11 : (w : Work) (v : Movement) → m .kind ≡ 11 → Agrees st n H w v → Agrees st n (H then m) NoWork v
-  step11 w v e a = at-work NoWork v (not-movement m 11 e refl refl refl refl) (works.step11 st n H m w e (a .works)) (λ t h c. no-member t h) a
+  step11 w v e a = at-work NoWork v (not-movement m 11 e refl) (works.step11 st n H m w e (a .works)) (λ t h c. no-member t h) a
 
   pub step4 : (w : Work) (v : Movement) → m .kind ≡ 4 → badDetection (workSet w) (m .a) (m .b) ≡ false → not (isAgreed w) ≡ false
       → overlaps (clearedSet v) (union (m .a) (m .b)) ≡ false → Agrees st n H w v → Agrees st n (H then m) (openedTo w (union (m .a) (m .b))) v
   step4 w v e good agreed clear a =
-      at-work (openedTo w (union (m .a) (m .b))) v (not-movement m 4 e refl refl refl refl) (works.step4 st n H m w e good agreed (a .works))
+      at-work (openedTo w (union (m .a) (m .b))) v (not-movement m 4 e refl) (works.step4 st n H m w e good agreed (a .works))
       (λ t h c. still-apart t c (has (openSet w) t) refl (opened-more w (union (m .a) (m .b)) t h)) a
     where
       still-apart : (t : ℕ) → has (clearedSet v) t ≡ true → (old : Bool) → has (openSet w) t ≡ old
@@ -117,25 +98,25 @@ module _ (st : Station) (n : ℕ) (H : List Message) (m : Message) where
 
   pub step10 : (w : Work) (v : Movement) → m .kind ≡ 10 → not (isAgreed w) ≡ false → Agrees st n H w v → Agrees st n (H then m) (restoredOf w (m .a)) v
   step10 w v e agreed a =
-      at-work (restoredOf w (m .a)) v (not-movement m 10 e refl refl refl refl) (works.step10 st n H m w e agreed (a .works)) (λ t h c. a .apart t (opened-fewer w (m .a) t h) c) a
+      at-work (restoredOf w (m .a)) v (not-movement m 10 e refl) (works.step10 st n H m w e agreed (a .works)) (λ t h c. a .apart t (opened-fewer w (m .a) t h) c) a
 
   pub step12 : (w : Work) (v : Movement) → m .kind ≡ 12 → Agrees st n H w v → Agrees st n (H then m) w v
   step12 w v e a =
-      at-work w v (not-movement m 12 e refl refl refl refl) (works.kept st n H m w (not-work m 12 e refl refl refl refl refl refl) (a .works)) (a .apart) a
+      at-work w v (not-movement m 12 e refl) (works.kept st n H m w (not-work m 12 e refl) (a .works)) (a .apart) a
 
   pub step5 : (w : Work) (v : Movement) → m .kind ≡ 5 → Agrees st n H w v → Agrees st n (H then m) w (movementFor (m .id) (m .d0))
-  step5 w v e = at-movement w (movementFor (m .id) (m .d0)) (not-work m 5 e refl refl refl refl refl refl) (asked-agrees st H m e) (λ t h. absurd (no-member t h))
+  step5 w v e = at-movement w (movementFor (m .id) (m .d0)) (not-work m 5 e refl) (asked-agrees st H m e) (λ t h. absurd (no-member t h))
 
   pub step7 : (w : Work) (v : Movement) → m .kind ≡ 7 → Agrees st n H w v → Agrees st n (H then m) w (orderedAs v (m .d0))
   step7 w v e a =
-      at-movement w (orderedAs v (m .d0)) (not-work m 7 e refl refl refl refl refl refl) (ordered-agrees st H m v e (a .movement)) (λ t h. same-cleared t v (m .d0) h) a
+      at-movement w (orderedAs v (m .d0)) (not-work m 7 e refl) (ordered-agrees st H m v e (a .movement)) (λ t h. same-cleared t v (m .d0) h) a
 
   pub step8 : (w : Work) (v : Movement) → m .kind ≡ 8 → Agrees st n H w v → Agrees st n (H then m) w NoMovement
-  step8 w v e = at-movement w NoMovement (not-work m 8 e refl refl refl refl refl refl) (left-agrees st H m (is-kind m 8 5 e) (rw (is-kind m 8 8 e))) (λ t h. absurd (no-member t h))
+  step8 w v e = at-movement w NoMovement (not-work m 8 e refl) (left-agrees st H m (is-kind m 8 5 e) (rw (is-kind m 8 8 e))) (λ t h. absurd (no-member t h))
 
   pub step9 : (w : Work) (v : Movement) → m .kind ≡ 9 → Agrees st n H w v → Agrees st n (H then m) w NoMovement
   step9 w v e =
-      at-movement w NoMovement (not-work m 9 e refl refl refl refl refl refl) (left-agrees st H m (is-kind m 9 5 e) (rw (is-kind m 9 8 e, is-kind m 9 9 e))) (λ t h. absurd (no-member t h))
+      at-movement w NoMovement (not-work m 9 e refl) (left-agrees st H m (is-kind m 9 5 e) (rw (is-kind m 9 8 e, is-kind m 9 9 e))) (λ t h. absurd (no-member t h))
 
   pub step6 : (w : Work) (v : Movement) → m .kind ≡ 6 → m .d0 < 64 → underTrain v (m .id) ≡ true
       → not (has (workedTurnouts st w v) (m .d0)) ≡ false → not (clearanceFits st (routeFor st v) m) ≡ false

@@ -1,59 +1,31 @@
 -- The work of a zone and the messages of that zone: one more of them, kind by kind. Nothing here knows of movements.
--- Assumes nothing.
-use mathlib.Core.Bool.{Bool, true, false, cond, not, _&&_, _||_, and-true, and-false, or-false, or-true, and-assoc, and-comm, and-eq-true-iff, true≢false, false≢true}
-use mathlib.Core.List.{List, [], _∷_}
-use mathlib.Core.Path.{_≡_, refl, sym, ap, ap₂, subst, _∙_}
-use Prim.Native.Nat.{ℕ, _≤_, _<_, min}
+use mathlib.Core.Bool.{Bool, true, false, not, _&&_, _||_, and-true, and-false, or-false, or-true, and-assoc, and-comm, and-eq-true-iff, true≢false}
+use mathlib.Core.List.{List}
+use mathlib.Core.Path.{_≡_, refl, sym, ap, ap₂, _∙_}
+use Prim.Native.Nat.{ℕ, _<_}
 use native.Mathlib.Omega.{arith}
-use borrow.Author.Tests.{ltb-true, eqb-true, eqb-false, eq-eqb, ne-eqb, lt-ltb, not-true, not-false}
+use borrow.Author.Tests.{ltb-true, eqb-true, not-false}
 use lib.Dec.{eqb, ltb}
-use lib.Bits.{bitAnd}
 use Rattle.sets.specs.Sets.{has, single, union, without, within, isEmpty, overlaps}
-use Rattle.sets.proofs.Membership.{has-zero, has-and, has-or, has-without, has-single, has-setOf}
-use Rattle.sets.proofs.Members.{within-member, disjoint-member}
+use Rattle.sets.proofs.Membership.{has-zero, has-or, has-without, has-setOf}
+use Rattle.sets.proofs.Members.{within-member}
 use Rattle.message.specs.declared.Message.{Message}
-use Rattle.message.specs.Fields.{fieldNumber}
 use Rattle.station.specs.declared.Station.{Station}
-use Rattle.station.specs.Station.{turnoutCount, zoneOf, zoneTurnouts, splits, theRoute, driveOf}
-use Rattle.zone.specs.declared.Agreement.{Agreement}
+use Rattle.station.specs.Station.{turnoutCount, zoneOf, zoneTurnouts, splits}
 use Rattle.zone.specs.declared.Work.{Work}
 use Rattle.zone.specs.declared.Work.the-variants.{NoWork, Asked, Agreed}
-use Rattle.zone.specs.declared.Passage.{Passage}
-use Rattle.zone.specs.declared.Movement.{Movement}
-use Rattle.zone.specs.declared.Movement.the-variants.{NoMovement, Standing}
 use Rattle.zone.specs.Work.{hasWork, isAgreed, underForm, workSet, agreedSet, openSet, askedFor, agreedFrom, openedTo, shutTo, restoredOf}
-use Rattle.zone.specs.Movement.{isStanding, underTrain, clearedSet, namedTurnouts, workedTurnouts, routeFor, movementFor, clearedAt, orderedAs}
-use Rattle.zone.specs.Clearance.{isEfficient, positionFits, driveFits, clampFits, clearanceFits}
-use Rattle.zone.specs.Kinds.{badRequest, badDetection}
-use Rattle.history.specs.Since.{Since, never, since, any, afterFirst}
-use Rattle.history.specs.History.{is, clears, ends, opens, leaves, asking, agreement, agreedAfter, askedIn, underAgreedWork, opened, openToWork, standing, clearsWell}
-use Rattle.history.proofs.Append.{_then_, extend, any-more}
-use Rattle.history.proofs.More.{asking-anew, under-on, open-on, under-agreed, open-agreed, standing-asked, standing-left, standing-on}
+use Rattle.rules.specs.Kinds.{badRequest, badDetection}
+use Rattle.history.specs.Since.{afterFirst}
+use Rattle.history.specs.History.{ends, agreement, agreedAfter, askedIn, underAgreedWork, opened, openToWork}
+use Rattle.history.proofs.Append.{_then_}
+use Rattle.history.proofs.More.{asking-anew, under-on, open-on, under-agreed, open-agreed}
 use Rattle.history.proofs.Moves.{alone}
-use Rattle.history.proofs.Agrees.{InZone, WorkAgrees, Works, under-is, nothing-open, is-kind, NotWork, work-kept, open-kept, no-member}
-
-pub not-work : (m : Message) (k : ℕ) → m .kind ≡ k → eqb k 1 ≡ false → eqb k 2 ≡ false → eqb k 4 ≡ false → eqb k 6 ≡ false → eqb k 10 ≡ false → eqb k 11 ≡ false → NotWork m
-not-work m k e one two four six ten eleven = record {
-  one = is-kind m k 1 e ∙ one;
-  two = is-kind m k 2 e ∙ two;
-  four = is-kind m k 4 e ∙ four;
-  six = is-kind m k 6 e ∙ six;
-  ten = is-kind m k 10 e ∙ ten;
-  eleven = is-kind m k 11 e ∙ eleven;
-}
+use Rattle.history.proofs.Agrees.{InZone, WorkAgrees, Works, under-is, nothing-open, is-kind, neither, NotWork, work-kept, open-kept, no-member}
 
 -- a message that is no 10 and no 11 ends no work
 no-end : (m : Message) (k : ℕ) → m .kind ≡ k → eqb k 10 ≡ false → eqb k 11 ≡ false → (t : ℕ) → ends t m ≡ false
 no-end m k e ten eleven t = rw (is-kind m k 10 e, ten, is-kind m k 11 e, eleven)
-
--- the first of three joined tests, all of which failed, and so on
-either-left : (a b : Bool) → (a || b) ≡ false → a ≡ false
-either-left false b e = refl
-either-left true b e = e
-
-either-right : (a b : Bool) → (a || b) ≡ false → b ≡ false
-either-right false b e = e
-either-right true b e = absurd (true≢false e)
 
 -- what shutting turnouts leaves of the work
 shut-work : (H : List Message) (w : Work) (s : ℕ) → WorkAgrees H w → WorkAgrees H (shutTo w s)
@@ -94,8 +66,9 @@ module _ (st : Station) (n : ℕ) (H : List Message) (m : Message) where
   step1 w e zone none good a =
       let anew = asking-anew H m (is-kind m 1 1 e) in
       let work : WorkAgrees (H then m) (askedFor (m .id) (m .d0) (m .a)) = (ap agreedAfter anew, λ t. ap (askedIn t) anew) in
-      let inside = not-false (within (m .a) (zoneTurnouts st (m .zone)))
-      (either-right (isEmpty (m .a)) (not (within (m .a) (zoneTurnouts st (m .zone)))) (either-left (isEmpty (m .a) || not (within (m .a) (zoneTurnouts st (m .zone)))) (splits st (m .a)) good)) in
+      let in-it = within (m .a) (zoneTurnouts st (m .zone)) in
+      let first = neither (isEmpty (m .a) || not in-it) (splits st (m .a)) good .0 in
+      let inside = not-false in-it (neither (isEmpty (m .a)) (not in-it) first .1) in
       record {
         work = work;
         opened = nothing-open (H then m) (λ t. under-is (H then m) (askedFor (m .id) (m .d0) (m .a)) work t ∙ has-zero t);
@@ -153,7 +126,7 @@ module _ (st : Station) (n : ℕ) (H : List Message) (m : Message) where
       let one = is-kind m 4 1 e in
       let two = is-kind m 4 2 e in
       let s = union (m .a) (m .b) in
-      let inside = not-false (within s (g .set)) (either-right (isEmpty s || overlaps (m .a) (m .b)) (not (within s (g .set))) good) in
+      let inside = not-false (within s (g .set)) (neither (isEmpty s || overlaps (m .a) (m .b)) (not (within s (g .set))) good .1) in
       record {
         work = λ t. work-kept H m (Agreed g) one two (no-end m 4 e refl refl) (a .work) t;
         opened = λ t. open-on H m one two t

@@ -1,12 +1,11 @@
 -- Demand 3, as one statement over any desk: what holds after every list of hearings from its fresh state, on the station of every sheet
 -- that is accepted.
-use mathlib.Core.Bool.{Bool, true}
+use mathlib.Core.Bool.{true}
 use mathlib.Core.Logic.{_↔_}
 use mathlib.Core.List.{List}
 use mathlib.Core.Path.{_≡_}
 use Prim.Native.Nat.{ℕ}
 use Rattle.message.specs.declared.Message.{Message}
-use Rattle.message.specs.Record.{readRecord}
 use Rattle.station.specs.declared.Station.{Station}
 use Rattle.sheet.specs.Sheet.{readSheet}
 use Rattle.zone.specs.declared.Regime.the-variants.{Clear}
@@ -14,9 +13,9 @@ use Rattle.desk.specs.declared.Desk.{Desk}
 use Rattle.desk.specs.declared.Applied.{Applied}
 use Rattle.desk.specs.Desk.{freshDesk, applied, appliedRecord}
 use Rattle.desk.specs.Questions.{movementAnswered, workAnswered}
-use Rattle.history.specs.Since.{Since, since, any}
-use Rattle.history.specs.History.{underAgreedWork, openToWork, standing, cleared, ofItsRoute, clearsWell}
-use Rattle.history.specs.Lists.{Input, message, bytes, Reply, Heard, Model, after, answers, accepted, kept, keptAnswers, ofZone}
+use Rattle.history.specs.Since.{since}
+use Rattle.history.specs.History.{openToWork, standing, cleared, EachWorkedCleared}
+use Rattle.history.specs.Lists.{Input, message, bytes, Heard, Model, answers, kept, keptAnswers, deskAfter, zoneMessages}
 
 -- the desk of the contracts: its definitions are those that the calls' `ensures` cite
 abbrev pub heardBy : Applied → Heard Desk
@@ -33,25 +32,20 @@ ours = record { State = Desk; fresh = freshDesk; hear = hears; movement = moveme
 pub record Holds (D : Model) (st : Station) (inputs : List Input) : Type 0 where
   -- "No turnout is both open to work and cleared for a train."
   pub apart :
-      (t z z′ : ℕ) → openToWork t (ofZone z (accepted D st (D .fresh) inputs)) ≡ true
-      → cleared t (ofZone z′ (accepted D st (D .fresh) inputs)) ≡ true
+      (t z z′ : ℕ) → openToWork t (zoneMessages D st inputs z) ≡ true
+      → cleared t (zoneMessages D st inputs z′) ≡ true
       → ⊥
   -- "Asked about any turnout, the desk says yes exactly when that turnout is open to work."
   pub work :
-      (t : ℕ) → (D .work st (after D st (D .fresh) inputs) t .yes ≡ true)
-      ↔ ((z : ℕ) × (openToWork t (ofZone z (accepted D st (D .fresh) inputs)) ≡ true))
-  -- "A standing movement is answered 'signals clear' exactly when each turnout of its route under agreed work has, among the messages
-  -- accepted since that movement was asked, a clearance for that train in the route's position with rods, lock and detection all
-  -- efficient."
+      (t : ℕ) → (D .work st (deskAfter D st inputs) t .yes ≡ true)
+      ↔ ((z : ℕ) × (openToWork t (zoneMessages D st inputs z) ≡ true))
+  -- "A standing movement is answered 'signals clear' exactly when each turnout of its route under agreed work has .. all efficient."
   pub clear :
-      (z : ℕ) (f : Message) (rest : List Message)
-      → standing (ofZone z (accepted D st (D .fresh) inputs)) ≡ since f rest
-      → (D .movement st (after D st (D .fresh) inputs) z (f .id) .regime ≡ Clear)
-      ↔ ((t : ℕ) → ofItsRoute st f t ≡ true
-      → underAgreedWork t (ofZone z (accepted D st (D .fresh) inputs)) ≡ true
-      → any (clearsWell st f t) rest ≡ true)
+      (z : ℕ) (f : Message) (rest : List Message) → standing (zoneMessages D st inputs z) ≡ since f rest
+      → (D .movement st (deskAfter D st inputs) z (f .id) .regime ≡ Clear)
+      ↔ EachWorkedCleared st (zoneMessages D st inputs z) f rest
   -- "Striking the refused messages from the list gives the same desk, and the messages kept get the same answers as before."
-  pub same-desk : after D st (D .fresh) (kept D st (D .fresh) inputs) ≡ after D st (D .fresh) inputs
+  pub same-desk : deskAfter D st (kept D st (D .fresh) inputs) ≡ deskAfter D st inputs
   pub same-answers : answers D st (D .fresh) (kept D st (D .fresh) inputs) ≡ keptAnswers D st (D .fresh) inputs
 
 -- demand 3 of a desk: "For every station sheet accepted and every list of messages heard from its fresh desk"

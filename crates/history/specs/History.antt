@@ -2,6 +2,7 @@
 -- These definitions share nothing with the desk's rules but set membership and the station.
 use mathlib.Core.Bool.{Bool, true, false, cond, not, _&&_, _||_}
 use mathlib.Core.List.{List}
+use mathlib.Core.Path.{_≡_}
 use Prim.Native.Nat.{ℕ}
 use lib.Dec.{eqb}
 use Rattle.sets.specs.Sets.{has}
@@ -94,3 +95,14 @@ clearsWell st f t m =
     && eqb (m .id) (f .id)
     && eqb (m .d2) (cond (has (theRoute st (f .d0) .reverse) t) 1 0)
     && (eqb (m .d1) 1 || eqb (m .d1) 2)
+
+-- "each turnout of its route under agreed work has, among the messages accepted since that movement was asked, a clearance for that
+-- train in the route's position with rods, lock and detection all efficient": of a movement asked by f, the messages H of its zone and
+-- those after f
+abbrev pub EachWorkedCleared : Station → List Message → Message → List Message → Type 0
+EachWorkedCleared st H f rest =
+    (t : ℕ) → ofItsRoute st f t ≡ true → underAgreedWork t H ≡ true → any (clearsWell st f t) rest ≡ true
+
+-- a turnout of its route under agreed work that has no clearance at all since that movement was asked
+abbrev pub lacks : Station → List Message → Message → List Message → ℕ → Bool
+lacks st H f rest t = ofItsRoute st f t && underAgreedWork t H && not (any (clears t) rest)

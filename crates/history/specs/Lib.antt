@@ -2,4 +2,5 @@ pub mod Since
 pub mod History
 pub mod Lists
 pub mod Demand3
-pub mod Replay
+pub mod Exact
+pub mod Cases

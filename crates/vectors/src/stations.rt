@@ -35,7 +35,7 @@ fn put_answers(out: &mut [u8], at: usize, answers: &[u8], n: u32) -> usize {
 // records, and an answer takes 5 bytes.
 pub fn put_replay(out: &mut [u8], at: usize, a: &[u8], b: &[u8]) -> usize {
     let mut answers = [0u8; 5120];
-    let code = history::replay(a, b, &mut answers);
+    let code = replay::replay(a, b, &mut answers);
     let next = put_number(out, at, code as u32);
     if code != 0 {
         return next;
@@ -54,7 +54,7 @@ fn regime_number(regime: Regime) -> u32 {
 
 // Kind 3: the movement question after journal b on sheet a: code, regime, lowest, count.
 pub fn put_movement(out: &mut [u8], at: usize, a: &[u8], b: &[u8], zone: u8, train: u32) -> usize {
-    let answer = history::replay_movement(a, b, zone, train);
+    let answer = replay::replay_movement(a, b, zone, train);
     let regime = answer.regime;
     let next = put_two(out, at, answer.code as u32, regime_number(regime));
     put_two(out, next, answer.lowest, answer.count)
@@ -62,7 +62,7 @@ pub fn put_movement(out: &mut [u8], at: usize, a: &[u8], b: &[u8], zone: u8, tra
 
 // Kind 4: the work question after journal b on sheet a: code, then 1 for yes and 0 for no.
 pub fn put_work(out: &mut [u8], at: usize, a: &[u8], b: &[u8], turnout: u8) -> usize {
-    let answer = history::replay_work(a, b, turnout);
+    let answer = replay::replay_work(a, b, turnout);
     put_two(out, at, answer.code as u32, answer.yes as u32)
 }
 

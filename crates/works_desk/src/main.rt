@@ -15,7 +15,7 @@ fn text_within(code: u8, answers: &[u8], count: u32, out: &mut [u8]) -> usize
 // Prints the answers to a journal's records, from one buffer. There are at most 1,024: 5 bytes each as answers, at most 17 as lines.
 fn print_answers(sheet: &[u8], journal: &[u8]) {
     let mut answers = [0u8; 5120];
-    let code = history::replay(sheet, journal, &mut answers);
+    let code = replay::replay(sheet, journal, &mut answers);
     let mut out = [0u8; 20480];
     let n = text_within(code, &answers, journal::count(journal), &mut out);
     io::write_all(STDOUT_FILENO, &out[..n]);

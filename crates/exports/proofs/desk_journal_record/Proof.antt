@@ -1,4 +1,4 @@
--- `exports::desk_journal_record` meets its contract: the number decides. Assumes nothing.
+-- The number decides.
 use mathlib.Core.Path.{ap}
 use borrow.Author.Tests.{eq-eqb, ne-eqb}
 use Rattle.journal.specs.Journal.{Part}

@@ -1,4 +1,4 @@
--- `exports::desk_record` meets its contract: the number of the reading. Assumes nothing.
+-- The number of the reading.
 use mathlib.Core.Path.{ap, _∙_}
 use Rattle.message.specs.Record.{ReadAnswer}
 use borrow.Author.Needs.{needs}

@@ -1,4 +1,4 @@
--- `exports::desk_sheet` meets its contract: the values of the answer are packed in one number. Assumes nothing.
+-- The values of the answer are packed in one number.
 use borrow.Author.Needs.{needs}
 use Rattle.exports.proofs.desk_sheet.Statement.{statement}
 use Rattle.exports.proofs.desk_sheet.Tie as tie

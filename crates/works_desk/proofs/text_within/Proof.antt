@@ -1,4 +1,4 @@
--- `works_desk::text_within` meets its contract: `report::text` fills from place 0, and so ends within the buffer. Assumes nothing.
+-- `report::text` fills from place 0, and so ends within the buffer.
 use mathlib.Core.Path.{sym, subst}
 use Prim.Native.Nat.{_≤_}
 use native.Mathlib.Omega.{arith}

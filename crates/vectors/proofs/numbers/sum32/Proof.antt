@@ -1,4 +1,4 @@
--- `numbers::sum32` is safe and ends: the bytes left fall. Assumes nothing.
+-- `numbers::sum32` is safe and ends: the bytes left fall.
 use Prim.Native.Nat.{_-_}
 use lib.ListN.{length}
 use borrow.Author.Needs.{needs}

@@ -1,37 +1,22 @@
--- Station K: the cases that document 01 marks *, in one proof over the written rules.
--- Assumes nothing.
+-- Station K: the cases that document 01 marks *, as one statement over the written rules.
 use mathlib.Core.Bool.{Bool, true, false}
 use mathlib.Core.List.{List, [], _∷_, _++_, map, foldr}
-use mathlib.Core.Path.{_≡_, refl}
+use mathlib.Core.Path.{_≡_}
 use Prim.Native.Nat.{ℕ}
 use lib.ListN.{take, replicate}
-use Rattle.sets.specs.Range.{firstFrom, allFrom}
-use Rattle.sets.specs.Sets.{has, single, setOf}
 use Rattle.message.specs.declared.Message.{Message}
-use Rattle.message.specs.Fields.{named, fieldsKept, fieldNumber}
-use Rattle.message.specs.Record.{decoded, headBytes, encoded, readRecord, WriteAnswer}
+use Rattle.message.specs.Record.{encoded, WriteAnswer}
 use Rattle.station.specs.declared.Station.{Station}
-use Rattle.station.specs.Station.{tiedWith, tied, zoneTurnouts, theRoute, splits}
-use Rattle.layout.specs.Layout.{headerNumber, stationIn}
-use Rattle.sets.specs.Table.{valuesFrom, places}
-use Rattle.sheet.specs.Partners.{goodTurnout, badTurnout}
-use Rattle.sheet.specs.Sheet.{goodRoute, badRoute, routesJudged, judged, readSheet}
+use Rattle.sheet.specs.Sheet.{readSheet}
 use Rattle.signals.specs.Answer as Verdicts
-use Rattle.zone.specs.Work.{minutesBetween}
-use Rattle.zone.specs.Movement.{regimeOf}
-use Rattle.zone.specs.Clearance.{clearanceFits}
-use Rattle.zone.specs.Trains.{movementUnder, noPlace, namedStanding, clearedStanding, placed, changed}
-use Rattle.zone.specs.Kinds.{row, workAfter, moved, recorderAfter, minutesFor, zoneAfter, answered, heard}
-use Rattle.desk.specs.Desk.{freshDesk, applied, appliedRecord}
-use Rattle.desk.specs.Questions.{workAnswered}
-use Rattle.journal.specs.Journal.{isJournal, journalNumber, counted, recordsFrom, records}
-use Rattle.report.specs.Answers.{withAnswer}
-use Rattle.report.specs.Text.{digits, decimal, lineOf, linesFrom, textOf}
-use Rattle.history.specs.Since.{Since, never, since, afterLast, afterFirst, any, anyThenNone}
-use Rattle.history.specs.History.{underAgreedWork, openToWork, standing, cleared, ofItsRoute, clearsWell}
-use Rattle.history.specs.Lists.{Input, message, bytes, Reply, after, answers, accepted, ofZone}
+use Rattle.desk.specs.Desk.{freshDesk}
+use Rattle.desk.specs.Questions.{movementRefused, movementAnswered, workAnswered}
+use Rattle.journal.specs.Journal.{counted, records}
+use Rattle.report.specs.Text.{textOf}
+use Rattle.history.specs.Lists.{Input, message, bytes, Reply, after, answers, zoneMessages}
 use Rattle.history.specs.Demand3.{ours}
-use Rattle.history.specs.Replay.{inputsOf, storedFrom, ran, replayed}
+use Rattle.history.specs.Cases.{plain, naming, clearing, acceptedK, upTo3, upTo6, upTo8, upTo10, asked}
+use Rattle.replay.specs.Replay.{replayed}
 
 -- "P = 3, Z = 1, R = 1; 0 and 1 an electric crossover, 2 alone by hand; route 0 runs over {0}, flank {2}, reverse empty: 50 bytes."
 abbrev pub sheetK : List ℕ
@@ -49,26 +34,6 @@ sheetK =
 
 abbrev pub stationK : Station
 stationK = readSheet sheetK .station
-
--- a message of zone 0 that names no set and no detail
-abbrev plain : ℕ → ℕ → ℕ → Message
-plain kind time id =
-    record { kind = kind; zone = 0; time = time; id = id; a = 0; b = 0; d0 = 0; d1 = 0; d2 = 0; d3 = 0; d4 = 0; d5 = 0 }
-
--- with the sets a and b and the detail d0
-abbrev pub naming : ℕ → ℕ → ℕ → ℕ → ℕ → ℕ → Message
-naming kind time id a b d0 =
-    record { kind = kind; zone = 0; time = time; id = id; a = a; b = b; d0 = d0; d1 = 0; d2 = 0; d3 = 0; d4 = 0; d5 = 0 }
-
--- a clearance: turnout, declaration, clamp, medium, in the normal position
-abbrev pub clearing : ℕ → ℕ → ℕ → ℕ → ℕ → ℕ → Message
-clearing time train turnout declaration clamp medium =
-    record { kind = 6; zone = 0; time = time; id = train; a = 0; b = 0; d0 = turnout; d1 = declaration; d2 = 0; d3 = clamp; d4 = medium; d5 = 0 }
-
--- the good clearance of turnout 0 for train 512, but in the reverse position
-abbrev reversed : Message
-reversed =
-    record { kind = 6; zone = 0; time = 115; id = 512; a = 0; b = 0; d0 = 0; d1 = 1; d2 = 1; d3 = 0; d4 = 1; d5 = 0 }
 
 -- "Records, all zone 0: 1 (t 0, id 7, M.45, {0,1}); 2 (t 90); 4 (t 100, a {0,1}); 5 (t 110, train 512, route 0); 7 clear (t 111); 6 (t 115,
 -- turnout 0, declaration 3, normal, 0, voice); 7 clear (t 116); 7 danger (t 117); 11 (t 118); 8 (t 130); 11 (t 209)."
@@ -128,9 +93,9 @@ answersK ms = answers ours stationK freshDesk (map message ms)
 abbrev openK : ℕ → ℕ → Bool
 openK n t = workAnswered stationK (after ours stationK freshDesk (take n recordsK)) t .yes
 
--- the history of zone 0 after the first n records
-abbrev storyK : ℕ → List Message
-storyK n = ofZone 0 (accepted ours stationK freshDesk (take n recordsK))
+-- the accepted messages of zone 0 after the first n records
+abbrev heardK : ℕ → List Message
+heardK n = zoneMessages ours stationK (take n recordsK) 0
 
 -- a request for {2} under verbal, agreed; and a movement over route 0
 abbrev verbal : List Message
@@ -183,71 +148,12 @@ pub record Cases : Type 0 where
   pub signal-1 : Verdicts.judged 1 1 2 ≡ record { code = 0; verdict = 3 }
   pub signal-2 : Verdicts.judged 1 2 2 ≡ record { code = 0; verdict = 2 }
   pub line-2 : Verdicts.judged 2 1 2 ≡ record { code = 0; verdict = 5 }
-  -- the history's words, each true once and false once, after records 3, 6, 8, 10 and 11
-  pub under-3 : map (λ (t : ℕ). underAgreedWork t (storyK 3)) (0 ∷ 1 ∷ 2 ∷ []) ≡ true ∷ true ∷ false ∷ []
-  pub under-11 : map (λ (t : ℕ). underAgreedWork t (storyK 11)) (0 ∷ 1 ∷ 2 ∷ []) ≡ false ∷ false ∷ false ∷ []
-  pub story-open-3 : map (λ (t : ℕ). openToWork t (storyK 3)) (0 ∷ 1 ∷ 2 ∷ []) ≡ true ∷ true ∷ false ∷ []
-  pub story-open-6 : map (λ (t : ℕ). openToWork t (storyK 6)) (0 ∷ 1 ∷ 2 ∷ []) ≡ false ∷ true ∷ false ∷ []
-  pub story-open-10 : map (λ (t : ℕ). openToWork t (storyK 10)) (0 ∷ 1 ∷ 2 ∷ []) ≡ false ∷ true ∷ false ∷ []
-  pub standing-3 : standing (storyK 3) ≡ never
-  pub standing-6 : standing (storyK 6) ≡ since (naming 5 110 512 0 0 0) (clearing 115 512 0 3 0 1 ∷ [])
-  pub standing-8 : standing (storyK 8) ≡ since (naming 5 110 512 0 0 0) (clearing 115 512 0 3 0 1 ∷ naming 7 117 512 0 0 2 ∷ [])
-  pub standing-10 : standing (storyK 10) ≡ never
-  pub cleared-3 : cleared 0 (storyK 3) ≡ false
-  pub cleared-6 : map (λ (t : ℕ). cleared t (storyK 6)) (0 ∷ 1 ∷ 2 ∷ []) ≡ true ∷ false ∷ false ∷ []
-  pub cleared-10 : cleared 0 (storyK 10) ≡ false
-  -- route 0 names turnouts 0 and 2
-  pub of-route : map (ofItsRoute stationK (naming 5 110 512 0 0 0)) (0 ∷ 1 ∷ 2 ∷ 3 ∷ []) ≡ true ∷ false ∷ true ∷ false ∷ []
-  -- a clearance with declaration 3 is no good one; with declaration 1 it is, but not for another train or in another position
-  pub not-well : any (clearsWell stationK (naming 5 110 512 0 0 0) 0) (clearing 115 512 0 3 0 1 ∷ []) ≡ false
-  pub well : any (clearsWell stationK (naming 5 110 512 0 0 0) 0) (clearing 115 512 0 1 0 1 ∷ []) ≡ true
-  pub other-train : any (clearsWell stationK (naming 5 110 512 0 0 0) 0) (clearing 115 513 0 1 0 1 ∷ []) ≡ false
-  pub other-position : any (clearsWell stationK (naming 5 110 512 0 0 0) 0) (reversed ∷ []) ≡ false
-
-pub station-k : Cases
-unfolding readSheet headerNumber stationIn places valuesFrom judged routesJudged badTurnout badRoute goodTurnout goodRoute firstFrom allFrom tied tiedWith has single after answers accepted ofZone applied appliedRecord readRecord decoded headBytes encoded named fieldsKept fieldNumber heard answered row workAfter moved movementUnder noPlace namedStanding clearedStanding placed changed recorderAfter minutesFor minutesBetween zoneAfter zoneTurnouts setOf splits theRoute regimeOf clearanceFits freshDesk workAnswered isJournal journalNumber counted recordsFrom records inputsOf replayed ran storedFrom withAnswer textOf linesFrom lineOf decimal digits underAgreedWork openToWork standing cleared afterLast afterFirst any anyThenNone Verdicts.judged
-station-k = record {
-  sheet = refl;
-  output = refl;
-  journal = refl;
-  text = refl;
-  open-3 = refl;
-  shut-6 = refl;
-  other-6 = refl;
-  shut-10 = refl;
-  one-end = refl;
-  both-ends = refl;
-  turnout-3 = refl;
-  turnout-3-too = refl;
-  verbal-b = refl;
-  verbal-a = refl;
-  declaration-3 = refl;
-  declaration-8-clamp = refl;
-  declaration-8 = refl;
-  voice = refl;
-  written = refl;
-  time-equal = refl;
-  time-less = refl;
-  seconds-59 = refl;
-  seconds-60 = refl;
-  signal-1 = refl;
-  signal-2 = refl;
-  line-2 = refl;
-  under-3 = refl;
-  under-11 = refl;
-  story-open-3 = refl;
-  story-open-6 = refl;
-  story-open-10 = refl;
-  standing-3 = refl;
-  standing-6 = refl;
-  standing-8 = refl;
-  standing-10 = refl;
-  cleared-3 = refl;
-  cleared-6 = refl;
-  cleared-10 = refl;
-  of-route = refl;
-  not-well = refl;
-  well = refl;
-  other-train = refl;
-  other-position = refl;
-}
+  -- the accepted messages after records 3, 6, 8, 10 and 11 are those that the history's words are tried on
+  pub heard-3 : heardK 3 ≡ upTo3
+  pub heard-6 : heardK 6 ≡ upTo6
+  pub heard-8 : heardK 8 ≡ upTo8
+  pub heard-10 : heardK 10 ≡ upTo10
+  pub heard-11 : heardK 11 ≡ acceptedK
+  -- on the fresh desk no movement stands, and one that is asked for is accepted
+  pub fresh-movement : movementAnswered stationK freshDesk 0 512 ≡ movementRefused 15
+  pub only-movement : zoneMessages ours stationK (message (asked 0) ∷ []) 0 ≡ asked 0 ∷ []

@@ -1,0 +1,2 @@
+pub mod StationK
+pub mod OtherDesks

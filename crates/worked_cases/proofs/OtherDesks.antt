@@ -1,0 +1,68 @@
+-- The desks that document 01 turns down do not meet demand 3, shown on station K.
+use mathlib.Core.Bool.{true, false, true≢false}
+use mathlib.Core.List.{List, [], _∷_}
+use mathlib.Core.Path.{_≡_, refl, sym, ap, _∙_}
+use Prim.Native.Nat.{ℕ}
+use lib.ListN.{take}
+use Rattle.sets.specs.Sets.{has}
+use Rattle.station.specs.declared.Station.{Station}
+use Rattle.zone.specs.Movement.{isClear}
+use Rattle.desk.specs.declared.Desk.{Desk}
+use Rattle.desk.specs.declared.MovementAnswer.{MovementAnswer}
+use Rattle.desk.specs.declared.WorkAnswer.{WorkAnswer}
+use Rattle.history.specs.Since.{since, afterLast, afterFirst, any, anyThenNone}
+use Rattle.history.specs.History.{underAgreedWork, openToWork, standing}
+use Rattle.history.specs.Lists.{Input, message, after, accepted, ofZone, zoneMessages}
+use Rattle.history.specs.Demand3.{ours, Demand3}
+use Rattle.history.specs.Cases.{asked}
+use Rattle.worked_cases.specs.StationK.{sheetK, stationK, recordsK}
+use Rattle.worked_cases.specs.OtherDesks.{answeringMovements, keepingNothing, staysFresh}
+use Rattle.worked_cases.proofs.StationK.{station-k}
+
+-- a movement on the fresh desk of station K
+abbrev onlyMovement : List Input
+onlyMovement = message (asked 0) ∷ []
+
+-- it stands
+stands : standing (asked 0 ∷ []) ≡ since (asked 0) []
+unfolding standing afterLast any
+stands = refl
+
+-- with no work anywhere each turnout of its route has what it needs
+nothing-worked : (t : ℕ) → underAgreedWork t (asked 0 ∷ []) ≡ true → ⊥
+unfolding underAgreedWork afterLast
+nothing-worked t under = true≢false (sym under)
+
+-- so the signals must be clear: no desk that never answers clear meets demand 3
+pub always-held-fails :
+    (movement : Station → Desk → ℕ → ℕ → MovementAnswer)
+    → ((st : Station) (d : Desk) (zone train : ℕ) → isClear (movement st d zone train .regime) ≡ false)
+    → Demand3 (answeringMovements movement) → ⊥
+unfolding accepted
+always-held-fails movement held demand =
+    let heard = station-k .only-movement in
+    let there = demand sheetK (station-k .sheet) onlyMovement in
+    let clear = there .clear 0 (asked 0) [] (ap standing heard ∙ stands) .1
+    (λ t named under. absurd (nothing-worked t (sym (ap (underAgreedWork t) heard) ∙ under))) in
+    true≢false (sym (ap isClear clear) ∙ held _ _ _ _)
+
+-- turnout 0 is open to work after record 3, and before the first record it is not
+pub keeps-nothing-fails : (answer : Station → ℕ → WorkAnswer) → Demand3 (keepingNothing answer) → ⊥
+unfolding accepted ofZone openToWork underAgreedWork afterLast afterFirst any anyThenNone has
+keeps-nothing-fails answer demand =
+    let heard = zoneMessages ours stationK (take 3 recordsK) 0 in
+    let now-open : openToWork 0 heard ≡ true = ap (openToWork 0) (station-k .heard-3) in
+    let later = demand sheetK (station-k .sheet) (take 3 recordsK) .work 0 .1 (0, now-open) in
+    let before = demand sheetK (station-k .sheet) [] .work 0 .0 later in
+    true≢false (sym (before .1))
+
+-- the movement is accepted and then forgotten
+pub stays-fresh-fails : Demand3 staysFresh → ⊥
+unfolding accepted after
+stays-fresh-fails demand =
+    let heard = station-k .only-movement in
+    let there = demand sheetK (station-k .sheet) onlyMovement in
+    let clear = there .clear 0 (asked 0) [] (ap standing heard ∙ stands) .1
+    (λ t named under. absurd (nothing-worked t (sym (ap (underAgreedWork t) heard) ∙ under))) in
+    let answer = ap (λ (a : MovementAnswer). isClear (a .regime)) (station-k .fresh-movement) in
+    true≢false (sym (ap isClear clear) ∙ answer)

@@ -1,0 +1,63 @@
+-- Station K's cases, in one proof: each computes.
+use mathlib.Core.Path.{refl}
+use Rattle.sets.specs.Range.{firstFrom, allFrom}
+use Rattle.sets.specs.Sets.{has, single, setOf}
+use Rattle.sets.specs.Table.{valuesFrom, places}
+use Rattle.message.specs.Fields.{named, fieldsKept, fieldNumber}
+use Rattle.message.specs.Record.{decoded, headBytes, encoded, readRecord}
+use Rattle.station.specs.Station.{tiedWith, tied, zoneTurnouts, theRoute, splits}
+use Rattle.layout.specs.Layout.{headerNumber, stationIn}
+use Rattle.sheet.specs.Partners.{goodTurnout, badTurnout}
+use Rattle.sheet.specs.Sheet.{goodRoute, badRoute, routesJudged, judged, readSheet}
+use Rattle.signals.specs.Answer as Verdicts
+use Rattle.zone.specs.Work.{minutesBetween}
+use Rattle.zone.specs.Movement.{regimeOf}
+use Rattle.zone.specs.Trains.{movementUnder, noPlace, namedStanding, clearedStanding, placed, changed}
+use Rattle.rules.specs.Clearance.{clearanceFits}
+use Rattle.rules.specs.Kinds.{row, workAfter, moved, recorderAfter, minutesFor, zoneAfter, answered, heard}
+use Rattle.desk.specs.Desk.{freshDesk, reached, applied, appliedRecord}
+use Rattle.desk.specs.Questions.{movementAnswered, workAnswered}
+use Rattle.journal.specs.Journal.{isJournal, journalNumber, counted, recordsFrom, records}
+use Rattle.report.specs.Answers.{withAnswer}
+use Rattle.report.specs.Text.{digits, decimal, lineOf, linesFrom, textOf}
+use Rattle.history.specs.Lists.{after, answers, accepted, ofZone}
+use Rattle.replay.specs.Replay.{inputsOf, storedFrom, ran, replayed}
+use Rattle.worked_cases.specs.StationK.{Cases}
+
+pub station-k : Cases
+unfolding readSheet headerNumber stationIn places valuesFrom judged routesJudged badTurnout badRoute goodTurnout goodRoute firstFrom allFrom tied tiedWith has single after answers accepted ofZone reached applied appliedRecord readRecord decoded headBytes encoded named fieldsKept fieldNumber heard answered row workAfter moved movementUnder noPlace namedStanding clearedStanding placed changed recorderAfter minutesFor minutesBetween zoneAfter zoneTurnouts setOf splits theRoute regimeOf clearanceFits freshDesk movementAnswered workAnswered isJournal journalNumber counted recordsFrom records inputsOf replayed ran storedFrom withAnswer textOf linesFrom lineOf decimal digits Verdicts.judged
+station-k = record {
+  sheet = refl;
+  output = refl;
+  journal = refl;
+  text = refl;
+  open-3 = refl;
+  shut-6 = refl;
+  other-6 = refl;
+  shut-10 = refl;
+  one-end = refl;
+  both-ends = refl;
+  turnout-3 = refl;
+  turnout-3-too = refl;
+  verbal-b = refl;
+  verbal-a = refl;
+  declaration-3 = refl;
+  declaration-8-clamp = refl;
+  declaration-8 = refl;
+  voice = refl;
+  written = refl;
+  time-equal = refl;
+  time-less = refl;
+  seconds-59 = refl;
+  seconds-60 = refl;
+  signal-1 = refl;
+  signal-2 = refl;
+  line-2 = refl;
+  heard-3 = refl;
+  heard-6 = refl;
+  heard-8 = refl;
+  heard-10 = refl;
+  heard-11 = refl;
+  fresh-movement = refl;
+  only-movement = refl;
+}

@@ -1,21 +1,18 @@
 -- Demand 3 of the unit: what holds after every list of records that a unit has heard one by one, the minutes 0 before each call, on every
 -- sheet that is accepted. It is demand 3 of the desk, which the unit follows.
--- Assumes nothing.
-use mathlib.Core.List.{List}
 use mathlib.Core.Path.{_≡_, sym, ap, _∙_}
-use Prim.Native.Nat.{ℕ}
 use Rattle.sheet.specs.Sheet.{readSheet}
 use Rattle.desk.specs.Desk.{freshDesk}
 use Rattle.desk_bytes.specs.Encoding.{deskBytes}
-use Rattle.history.specs.Lists.{Input, after, answers, kept}
-use Rattle.history.specs.Demand3.{ours, Holds}
+use Rattle.history.specs.Lists.{after, answers, kept}
+use Rattle.history.specs.Demand3.{ours}
 use Rattle.history.proofs.Theorem.{demand3}
-use Rattle.unit.specs.OneByOne.{unitOf}
+use Rattle.unit.specs.OneByOne.{unitOf, IsRecord, UnitDemand3}
 use Rattle.unit.proofs.Typed.{fresh-typed}
-use Rattle.unit.proofs.Follows.{Each, good-after, after-same, answers-same, accepted-same, kept-same, kept-answers-same, kept-pass}
-use Rattle.unit.proofs.OneByOne.{IsRecord, follows, movement-asked, work-asked}
+use Rattle.unit.proofs.Follows.{good-after, after-same, answers-same, accepted-same, kept-same, kept-answers-same, kept-pass}
+use Rattle.unit.proofs.OneByOne.{follows, movement-asked, work-asked}
 
-pub unit-demand3 : (sheet : List ℕ) → readSheet sheet .code ≡ 0 → (inputs : List Input) → Each IsRecord inputs → Holds (unitOf sheet) (readSheet sheet .station) inputs
+pub unit-demand3 : UnitDemand3
 unfolding follows
 unit-demand3 sheet good inputs pass =
     let st = readSheet sheet .station in

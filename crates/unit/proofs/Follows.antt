@@ -1,18 +1,13 @@
 -- A desk that hears as another does, through a map of its states: over a list it gives the same answers, accepts the same messages and ends in
 -- the state that the map gives.
--- Assumes nothing.
 use mathlib.Core.Bool.{Bool, true, false, cond}
 use mathlib.Core.List.{List, [], _∷_}
-use mathlib.Core.Path.{_≡_, refl, sym, ap, _∙_}
+use mathlib.Core.Path.{_≡_, refl, ap, _∙_}
 use lib.Dec.{eqb}
 use Rattle.message.specs.declared.Message.{Message}
 use Rattle.station.specs.declared.Station.{Station}
+use Rattle.unit.specs.OneByOne.{Each}
 use Rattle.history.specs.Lists.{Input, messageOf, Reply, Heard, Model, isAccepted, after, answers, accepted, kept, keptAnswers}
-
--- each input of a list passes
-abbrev pub Each : (Input → Type 0) → List Input → Type 0
-Each Q [] = Unit
-Each Q (i ∷ inputs) = Q i × Each Q inputs
 
 -- the desk D follows the desk E on inputs that pass, from states that pass
 pub record Follows (D E : Model) (st : Station) (Q : Input → Type 0) : Type 1 where

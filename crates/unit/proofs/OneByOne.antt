@@ -1,63 +1,31 @@
 -- The law of the unit, proved: it hears records as the desk of the contracts does, so records heard one by one get what replaying them as a
 -- journal gives. The minutes are 0 before each call; `any-minutes` says what others change.
--- Assumes nothing.
-use mathlib.Core.Path.{_≡_, refl, ap, _∙_}
-use mathlib.Core.Bool.{Bool, true, false, cond, true≢false}
+use mathlib.Core.Path.{_≡_, refl, sym, ap}
+use mathlib.Core.Bool.{Bool, true, false, cond}
 use mathlib.Core.List.{List, [], _∷_, map}
 use Prim.Native.Nat.{ℕ, zero, suc, _+_}
-use lib.Dec.{eqb, ltb, lit<}
+use lib.Dec.{eqb, lit<}
 use lib.ListN.{length, take, drop}
 use lib.Seq.{getD-drop}
 use borrow.Author.Tests.{eq-eqb, eqb-true}
-use Rattle.bigendian.proofs.Numbers.{Bytes}
-use Rattle.message.specs.declared.Message.{Message}
-use Rattle.message.specs.Fields.{fieldNumber}
-use Rattle.message.specs.Record.{readRecord}
+use Rattle.bigendian.specs.BigEndian.{Bytes}
 use Rattle.station.specs.declared.Station.{Station}
-use Rattle.station.specs.Station.{zoneCount}
 use Rattle.sheet.specs.Sheet.{readSheet}
-use Rattle.zone.specs.declared.Zone.{Zone}
-use Rattle.zone.specs.Kinds.{first, row, answered, heard}
 use Rattle.desk.specs.declared.Desk.{Desk}
-use Rattle.desk.specs.Desk.{zoneAt, freshDesk, applied, appliedRecord}
+use Rattle.desk.specs.Desk.{freshDesk, appliedRecord}
 use Rattle.desk.specs.Questions.{movementAnswered, workAnswered}
 use Rattle.journal.specs.Journal.{journalNumber, counted, recordPlace, recordIn, recordsFrom, records}
-use Rattle.history.specs.Lists.{Input, message, bytes, after, answers}
+use Rattle.history.specs.Lists.{Input, message, bytes, Heard, after, answers}
 use Rattle.history.specs.Demand3.{hears, ours}
-use Rattle.history.specs.Replay.{inputsOf, ran, replayed, movementReplayed, workReplayed}
+use Rattle.replay.specs.Replay.{inputsOf, ran, replayed, movementReplayed, workReplayed}
 use Rattle.history.proofs.Hearing.{hear-refused}
-use Rattle.desk_bytes.specs.Encoding.{deskBytes}
-use Rattle.desk_bytes.proofs.Typed.{TypedDesk}
+use Rattle.desk_bytes.specs.Encoding.{deskBytes, deskIn}
+use Rattle.desk_bytes.specs.Typed.{TypedDesk}
 use Rattle.desk_bytes.proofs.RoundTrip.{decoded-encoded, encoded-is-desk}
-use Rattle.unit.specs.Unit.{unitFresh, started, stored, unitApplied, unitMovement, unitWork}
-use Rattle.unit.specs.OneByOne.{leaves, recordOf, unitOf, OneByOne}
+use Rattle.unit.specs.Unit.{UnitAnswer, unitFresh, started, stored, unitApplied, unitMovement, unitWork}
+use Rattle.unit.specs.OneByOne.{leaves, recordOf, unitOf, Each, IsRecord, OneByOne}
 use Rattle.unit.proofs.Typed.{fresh-typed, applied-typed}
-use Rattle.unit.proofs.Follows.{Each, Follows, good-after, after-same, answers-same}
-
--- a refused message has 0 minutes, a refused record too
-heard-minutes : (st : Station) (z : Zone) (m : Message) → eqb (heard st z m .code) 0 ≡ false → heard st z m .minutes ≡ 0
-unfolding heard answered
-heard-minutes st z m other = go (ltb (m .time) (z .time)) refl (eqb (first (row (m .kind) st z m)) 0) refl
-  where
-    go : (early : Bool) → ltb (m .time) (z .time) ≡ early → (none : Bool) → eqb (first (row (m .kind) st z m)) 0 ≡ none → heard st z m .minutes ≡ 0
-    go true p none q = rw p
-    go false p true q = absurd (true≢false (rw (p, q) at other))
-    go false p false q = rw (p, q)
-
-refused-minutes : (st : Station) (d : Desk) (s : List ℕ) → eqb (appliedRecord st d s .code) 0 ≡ false → appliedRecord st d s .minutes ≡ 0
-unfolding appliedRecord applied
-refused-minutes st d s other =
-    let m = readRecord s .message in
-    go (eqb (readRecord s .code) 0) refl (eqb (fieldNumber m) 0) refl (ltb (m .zone) (zoneCount st)) refl
-  where
-    go : (read : Bool) → eqb (readRecord s .code) 0 ≡ read → (fields : Bool) → eqb (fieldNumber (readRecord s .message)) 0 ≡ fields
-        → (inside : Bool) → ltb (readRecord s .message .zone) (zoneCount st) ≡ inside → appliedRecord st d s .minutes ≡ 0
-    go true p true q true r =
-        let m = readRecord s .message in
-        rw (p, q, r) (heard-minutes st (zoneAt d (m .zone)) m (rw (p, q, r) at other))
-    go true p true q false r = rw (p, q, r)
-    go true p false q inside r = rw (p, q)
-    go false p fields q inside r = rw p
+use Rattle.unit.proofs.Follows.{Follows, good-after, after-same, answers-same}
 
 -- what a unit stores of a desk's answer is that answer, as bytes, also where the record is refused: then nothing has changed
 stored-as : (st : Station) (d : Desk) (r : List ℕ)
@@ -70,7 +38,11 @@ stored-as st d r = go (eqb (appliedRecord st d r .code) 0) refl
         → let a = appliedRecord st d r in
         stored (deskBytes d) 0 a ≡ record { code = a .code; bytes = deskBytes (a .desk); minutes = a .minutes }
     go true p = rw (p, eqb-true (appliedRecord st d r .code) 0 p)
-    go false p = rw (p, hear-refused st d (bytes r) p, refused-minutes st d r p)
+    go false p =
+        let same = hear-refused st d (bytes r) p in
+        let told : Heard Desk → UnitAnswer =
+        λ h. record { code = h .reply .code; bytes = deskBytes (h .state); minutes = h .reply .minutes } in
+        rw p (sym (ap told same))
 
 -- a unit of an accepted sheet, whose bytes are a desk's, hears a record as that desk does
 pub hears-as : (sheet : List ℕ) → readSheet sheet .code ≡ 0 → (d : Desk) → TypedDesk d → (r : List ℕ)
@@ -80,11 +52,6 @@ unfolding unitApplied started
 hears-as sheet good d fits r =
     rw (eq-eqb (readSheet sheet .code) 0 good, encoded-is-desk d fits, decoded-encoded d fits)
     (stored-as (readSheet sheet .station) d r)
-
--- an input that is a record of bytes: a unit hears no other
-abbrev pub IsRecord : Input → Type 0
-IsRecord (message m) = ⊥
-IsRecord (bytes s) = Bytes s
 
 -- the unit of an accepted sheet follows the desk of the contracts
 unfoldable pub follows : (sheet : List ℕ) → readSheet sheet .code ≡ 0 → Follows (unitOf sheet) ours (readSheet sheet .station) IsRecord
@@ -169,10 +136,10 @@ pub any-minutes : (sheet desk r : List ℕ) (minutes : ℕ)
 unfolding unitApplied stored
 any-minutes sheet desk r minutes =
     let at = started sheet desk in
-    go (eqb (at .code) 0) refl (eqb (appliedRecord (at .station) (at .desk) r .code) 0) refl
+    go (eqb (at .code) 0) refl (eqb (appliedRecord (at .station) (deskIn desk) r .code) 0) refl
   where
     go : (good : Bool) → eqb (started sheet desk .code) 0 ≡ good
-        → (taken : Bool) → eqb (appliedRecord (started sheet desk .station) (started sheet desk .desk) r .code) 0 ≡ taken
+        → (taken : Bool) → eqb (appliedRecord (started sheet desk .station) (deskIn desk) r .code) 0 ≡ taken
         → let a = unitApplied sheet desk r 0 in
         unitApplied sheet desk r minutes ≡ record { code = a .code; bytes = a .bytes; minutes = cond (eqb (a .code) 0) (a .minutes) minutes }
     go true p true q = rw (p, q)

@@ -1,15 +1,23 @@
--- Where neither the sheet nor the desk is refused, the bytes are a desk's.
--- Assumes nothing.
+-- What a unit may rely on once neither the sheet nor the desk is refused: the bytes are a desk's, a record is heard by the zone in its
+-- place, and storing that zone is storing the desk.
 use mathlib.Core.Bool.{Bool, true, false}
 use mathlib.Core.List.{List}
 use mathlib.Core.Path.{_≡_, refl}
-use Prim.Native.Nat.{ℕ}
+use Prim.Native.Nat.{ℕ, _<_}
 use native.Mathlib.Omega.{arith}
 use lib.Dec.{eqb}
-use borrow.Author.Tests.{eqb-false}
+use borrow.Author.Tests.{eqb-false, eq-eqb, ne-eqb}
+use Rattle.message.specs.declared.Message.{Message}
+use Rattle.message.specs.Record.{accepted, refused, readRecord}
+use Rattle.message.proofs.RoundTrips.{refused-by}
+use Rattle.station.specs.declared.Station.{Station}
 use Rattle.sheet.specs.Sheet.{readSheet}
-use Rattle.desk_bytes.specs.Encoding.{isDesk}
-use Rattle.unit.specs.Unit.{started}
+use Rattle.zone.specs.declared.Answer.{Answer}
+use Rattle.desk.specs.Desk.{zoneAt, refusedBy, putBack, appliedRecord, zonePlace, zoneHears}
+use Rattle.desk.proofs.InPlace.{reached-in-place}
+use Rattle.desk_bytes.specs.Encoding.{deskIn, isDesk, storedZone}
+use Rattle.desk_bytes.proofs.ZonePlaces.{zone-stored}
+use Rattle.unit.specs.Unit.{started, stored}
 
 pub started-desk : (sheet desk : List ℕ) → started sheet desk .code ≡ 0 → isDesk desk ≡ true
 unfolding started
@@ -19,3 +27,25 @@ started-desk sheet desk code = go (eqb (readSheet sheet .code) 0) refl (isDesk d
     go true p true q = q
     go true p false q = let refused : _≡_ {A = ℕ} 61 0 = rw (p, q) at code in absurd (omega arith)
     go false p told q = absurd (eqb-false (readSheet sheet .code) 0 p (rw p at code))
+
+-- a record that reads as m, heard by the desk in the bytes s
+pub record-heard :
+    (st : Station) (s r : List ℕ) (m : Message) → accepted m ≡ readRecord r
+    → appliedRecord st (deskIn s) r
+    ≡ putBack (deskIn s) (zonePlace st m) (zoneHears st (zoneAt (deskIn s) (zonePlace st m)) m)
+unfolding appliedRecord
+record-heard st s r m read = rw (← read) (reached-in-place st (deskIn s) m)
+
+-- a record that is refused by a number
+pub record-refused :
+    (st : Station) (s r : List ℕ) (number : ℕ) → refused number ≡ readRecord r
+    → appliedRecord st (deskIn s) r ≡ refusedBy (deskIn s) number
+unfolding appliedRecord
+record-refused st s r number read = rw (← read, ne-eqb number 0 (refused-by r number read))
+
+-- an accepted answer of the zone in place k, stored
+pub zone-answered :
+    (s : List ℕ) (minutes k : ℕ) (a : Answer) → isDesk s ≡ true → k < 8 → a .code ≡ 0
+    → stored s minutes (putBack (deskIn s) k a) ≡ record { code = 0; bytes = storedZone s k (a .zone); minutes = a .minutes }
+unfolding stored
+zone-answered s minutes k a told below zero = rw (eq-eqb (a .code) 0 zero, zone-stored s k (a .zone) told below)

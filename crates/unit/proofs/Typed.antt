@@ -1,5 +1,4 @@
 -- Hearing keeps the bounds: from the fresh desk on, records of bytes leave a desk whose numbers of several bytes are of their machine types.
--- Assumes nothing.
 use mathlib.Core.Path.{_≡_, refl, _∙_}
 use mathlib.Core.Bool.{Bool, true, false, cond}
 use mathlib.Core.List.{List, [], _∷_}
@@ -11,14 +10,14 @@ use lib.Bits.{bitAnd, and-le-l, or-lt, xor-lt}
 use lib.Pow.{pow-lt}
 use lib.ListN.{length, set, replicate, length-set, List·getD-eq-default}
 use borrow.Author.Tests.{eqb-true, ltb-true}
-use Rattle.bigendian.proofs.Numbers.{Bytes}
+use Rattle.bigendian.specs.BigEndian.{Bytes}
 use Rattle.bigendian.proofs.Places.{number-lt}
 use Rattle.sets.specs.Sets.{single, union, without}
 use Rattle.message.specs.declared.Message.{Message}
 use Rattle.message.specs.Fields.{fieldNumber}
 use Rattle.message.specs.Record.{decoded, readRecord}
 use Rattle.message.proofs.RoundTrips.{Typed}
-use Rattle.message.proofs.EachKind.{each-kind}
+use Rattle.message.proofs.EachKind.{_also_, each-kind}
 use Rattle.station.specs.declared.Station.{Station}
 use Rattle.zone.specs.declared.Work.{Work}
 use Rattle.zone.specs.declared.Work.the-variants.{NoWork, Asked, Agreed}
@@ -27,15 +26,17 @@ use Rattle.zone.specs.declared.Movement.the-variants.{NoMovement, Standing}
 use Rattle.zone.specs.declared.Zone.{Zone}
 use Rattle.zone.specs.Work.{agreedFrom, openedTo, shutTo, restoredOf}
 use Rattle.zone.specs.Movement.{movementFor, clearedAt, orderedAs}
-use Rattle.zone.specs.Clearance.{isEfficient}
-use Rattle.zone.specs.Kinds.{first, row, rows, noKind, workAfter, moved, zoneAfter, freshZone}
+use Rattle.rules.specs.Clearance.{isEfficient}
+use Rattle.zone.specs.Zone.{freshZone}
+use Rattle.rules.specs.Kinds.{first, row, rows, noKind, workAfter, moved, zoneAfter}
 use Rattle.zone.specs.Trains.{movementUnder, changed}
 use Rattle.zone.proofs.EachTrain.{every-placed, every-changed, every-under}
 use Rattle.desk.specs.declared.Desk.{Desk}
 use Rattle.desk.specs.Desk.{zoneAt, freshDesk, appliedRecord}
-use Rattle.desk_bytes.proofs.Typed.{TypedWork, TypedMovement, TypedZone, TypedDesk, no-work-typed, no-movement-typed, Each, each-none, each-next}
+use Rattle.desk_bytes.specs.Typed.{TypedWork, TypedMovement, TypedZone, TypedDesk}
+use Rattle.desk_bytes.proofs.Typed.{no-work-typed, no-movement-typed, Each, each-none, each-next}
 use Rattle.history.specs.Lists.{bytes}
-use Rattle.history.proofs.Hearing.{hear-accepted, hear-refused}
+use Rattle.history.proofs.Hearing.{hear-accepted, same-state}
 
 -- the message that is read from bytes
 read-typed : (s : List ℕ) → Bytes s → Typed (readRecord s .message)
@@ -138,19 +139,20 @@ after-typed st z m told fits checks =
     by-kind : (k : ℕ) → first (row k st z m) ≡ 0 → TypedWork (workAfter k (z .work) m) × TypedMovement (moved k z m .movement)
     by-kind =
         each-kind (λ k. first (row k st z m) ≡ 0 → TypedWork (workAfter k (z .work) m) × TypedMovement (moved k z m .movement))
-        (λ none. absurd (omega arith))
-        (λ none. (record { form = told .id; set = told .a; since = lit< tt; opened = lit< tt }, fits .movement))
-        (λ none. (agreed-typed (z .work) (m .time) (fits .work) (told .time), fits .movement))
-        (λ none. (no-work-typed, fits .movement))
-        (λ none. (opened-typed (z .work) (union (m .a) (m .b)) (fits .work) (or-lt 64 (m .a) (m .b) (told .a) (told .b)), fits .movement))
-        (λ none. (fits .work, every-placed TypedMovement (z .movement) (movementFor (m .id) (m .d0)) (fits .movement) (record { train = told .id; cleared = lit< tt; efficient = lit< tt })))
-        (λ none. (shut-typed (z .work) (single (m .d0)) (fits .work), becomes (clearedAt its (m .d0) (isEfficient (m .d1))) (cleared-typed its (m .d0) (isEfficient (m .d1)) its-typed)))
-        (λ none. (fits .work, becomes (orderedAs its (m .d0)) (ordered-typed its (m .d0) its-typed)))
-        (λ none. (fits .work, becomes NoMovement no-movement-typed))
-        (λ none. (fits .work, becomes NoMovement no-movement-typed))
-        (λ none. (restored-typed (z .work) (m .a) (fits .work), fits .movement))
-        (λ none. (no-work-typed, fits .movement))
-        (λ none. (fits .work, fits .movement))
+        ((λ none. absurd (omega arith))
+        also (λ none. (record { form = told .id; set = told .a; since = lit< tt; opened = lit< tt }, fits .movement))
+        also (λ none. (agreed-typed (z .work) (m .time) (fits .work) (told .time), fits .movement))
+        also (λ none. (no-work-typed, fits .movement))
+        also (λ none. (opened-typed (z .work) (union (m .a) (m .b)) (fits .work) (or-lt 64 (m .a) (m .b) (told .a) (told .b)), fits .movement))
+        also (λ none. (fits .work, every-placed TypedMovement (z .movement) (movementFor (m .id) (m .d0)) (fits .movement) (record { train = told .id; cleared = lit< tt; efficient = lit< tt })))
+        also (λ none. (shut-typed (z .work) (single (m .d0)) (fits .work), becomes (clearedAt its (m .d0) (isEfficient (m .d1))) (cleared-typed its (m .d0) (isEfficient (m .d1)) its-typed)))
+        also (λ none. (fits .work, becomes (orderedAs its (m .d0)) (ordered-typed its (m .d0) its-typed)))
+        also (λ none. (fits .work, becomes NoMovement no-movement-typed))
+        also (λ none. (fits .work, becomes NoMovement no-movement-typed))
+        also (λ none. (restored-typed (z .work) (m .a) (fits .work), fits .movement))
+        also (λ none. (no-work-typed, fits .movement))
+        also (λ none. (fits .work, fits .movement))
+        also tt)
         (λ k past none. let eleven : _≡_ {A = ℕ} 11 0 = rw (List·getD-eq-default rows noKind past) at none in absurd (omega arith))
 
 -- one zone is put back
@@ -180,4 +182,4 @@ applied-typed st d s fits byte = go (eqb (appliedRecord st d s .code) 0) refl
           zones = length-set (d .zones) (m .zone) (zoneAfter (m .kind) (zoneAt d (m .zone)) m) ∙ fits .zones;
           each = each-set (d .zones) (m .zone) (zoneAfter (m .kind) (zoneAt d (m .zone)) m) next (fits .each);
         })
-    go false p = rw (hear-refused st d (bytes s) p) fits
+    go false p = rw (same-state st d (bytes s) p) fits

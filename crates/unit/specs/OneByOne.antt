@@ -1,11 +1,12 @@
 -- A unit that hears records one by one, as a desk of the lists of hearings, so that demand 3 can be said of it; and the law that it gives
 -- what replaying a journal gives.
 use mathlib.Core.Bool.{false}
-use mathlib.Core.List.{List}
+use mathlib.Core.List.{List, [], _∷_}
 use mathlib.Core.Path.{_≡_}
 use Prim.Native.Nat.{ℕ}
 use lib.Dec.{ltb}
 use lib.ListN.{length}
+use Rattle.bigendian.specs.BigEndian.{Bytes}
 use Rattle.message.specs.Record.{encoded}
 use Rattle.sheet.specs.Sheet.{readSheet}
 use Rattle.desk.specs.Desk.{freshDesk}
@@ -13,8 +14,8 @@ use Rattle.desk_bytes.specs.Encoding.{deskBytes}
 use Rattle.journal.specs.Journal.{counted}
 use Rattle.report.specs.Answers.{answerPlace}
 use Rattle.history.specs.Lists.{Input, message, bytes, Heard, Model, after, answers}
-use Rattle.history.specs.Demand3.{ours}
-use Rattle.history.specs.Replay.{inputsOf, storedFrom, replayed, movementReplayed, workReplayed}
+use Rattle.history.specs.Demand3.{ours, Holds}
+use Rattle.replay.specs.Replay.{inputsOf, storedFrom, replayed, movementReplayed, workReplayed}
 use Rattle.unit.specs.Unit.{UnitAnswer, unitApplied, unitMovement, unitWork}
 
 -- what a call leaves: the answer, and the desk's bytes
@@ -36,6 +37,22 @@ unitOf sheet = record {
   movement = λ st s zone train. unitMovement sheet s zone train;
   work = λ st s turnout. unitWork sheet s turnout;
 }
+
+-- each input of a list passes
+abbrev pub Each : (Input → Type 0) → List Input → Type 0
+Each Q [] = Unit
+Each Q (i ∷ inputs) = Q i × Each Q inputs
+
+-- an input that is a record of bytes: a unit hears no other
+abbrev pub IsRecord : Input → Type 0
+IsRecord (message m) = ⊥
+IsRecord (bytes s) = Bytes s
+
+-- demand 3 of the unit: after every list of records that it has heard one by one, on every sheet that is accepted
+abbrev pub UnitDemand3 : Type 0
+UnitDemand3 =
+    (sheet : List ℕ) → readSheet sheet .code ≡ 0 → (inputs : List Input) → Each IsRecord inputs
+    → Holds (unitOf sheet) (readSheet sheet .station) inputs
 
 -- The law of the unit, which `one-by-one` gives of a sheet and a journal that are accepted: the records of the journal, heard one by one,
 -- get the answers that replaying stores; the bytes are then those of the desk after the journal; and the unit answers both questions

@@ -7,6 +7,7 @@ use Prim.Native.Nat.{ℕ}
 use lib.Dec.{eqb}
 use lib.ListN.{length}
 use Rattle.message.specs.Record.{WriteAnswer}
+use Rattle.sheet.specs.declared.Sheet.{Sheet}
 use Rattle.sheet.specs.Sheet.{readSheet}
 use Rattle.desk.specs.declared.Applied.{Applied}
 use Rattle.desk.specs.declared.MovementAnswer.{MovementAnswer}
@@ -14,20 +15,22 @@ use Rattle.desk.specs.declared.WorkAnswer.{WorkAnswer}
 use Rattle.desk.specs.Desk.{freshDesk, appliedRecord}
 use Rattle.desk.specs.Questions.{movementRefused, movementAnswered, workAnswered}
 use Rattle.desk_bytes.specs.Encoding.{deskBytes, deskIn, isDesk}
-use Rattle.unit.specs.declared.Start.{Start}
 
 -- the fresh desk in a buffer of its length
 unfoldable pub unitFresh : List ℕ → WriteAnswer
 unitFresh desk =
     cond (eqb (length desk) 520) (record { code = 0; bytes = deskBytes freshDesk }) (record { code = 61; bytes = desk })
 
--- What a record or a question starts from: the sheet's station, the desk that stands in the bytes, and the number that refuses them, the
--- sheet's, then 61; 0 where both are good.
-unfoldable pub started : List ℕ → List ℕ → Start
+-- the sheet's number, then 61 for bytes that are no desk's; 0 where both are good
+abbrev pub startNumber : ℕ → List ℕ → ℕ
+startNumber code desk = cond (eqb code 0) (cond (isDesk desk) 0 61) code
+
+-- what a record or a question starts from: the sheet as it was read, with that number
+unfoldable pub started : List ℕ → List ℕ → Sheet
 started sheet desk = record {
-  code = cond (eqb (readSheet sheet .code) 0) (cond (isDesk desk) 0 61) (readSheet sheet .code);
+  code = startNumber (readSheet sheet .code) desk;
+  index = readSheet sheet .index;
   station = readSheet sheet .station;
-  desk = deskIn desk;
 }
 
 -- what hearing a record leaves: the code, the desk's bytes, the minutes
@@ -47,16 +50,16 @@ stored desk minutes a =
 unfoldable pub unitApplied : List ℕ → List ℕ → List ℕ → ℕ → UnitAnswer
 unitApplied sheet desk bytes minutes =
     let at = started sheet desk in
-    cond (eqb (at .code) 0) (stored desk minutes (appliedRecord (at .station) (at .desk) bytes))
+    cond (eqb (at .code) 0) (stored desk minutes (appliedRecord (at .station) (deskIn desk) bytes))
     (record { code = at .code; bytes = desk; minutes = minutes })
 
 -- the two questions; a refusal has the values of the desk's refusal
 unfoldable pub unitMovement : List ℕ → List ℕ → ℕ → ℕ → MovementAnswer
 unitMovement sheet desk zone train =
     let at = started sheet desk in
-    cond (eqb (at .code) 0) (movementAnswered (at .station) (at .desk) zone train) (movementRefused (at .code))
+    cond (eqb (at .code) 0) (movementAnswered (at .station) (deskIn desk) zone train) (movementRefused (at .code))
 
 unfoldable pub unitWork : List ℕ → List ℕ → ℕ → WorkAnswer
 unitWork sheet desk turnout =
     let at = started sheet desk in
-    cond (eqb (at .code) 0) (workAnswered (at .station) (at .desk) turnout) (record { code = at .code; yes = false })
+    cond (eqb (at .code) 0) (workAnswered (at .station) (deskIn desk) turnout) (record { code = at .code; yes = false })

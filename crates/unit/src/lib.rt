@@ -1,14 +1,15 @@
 // The unit: a desk kept in 520 bytes by the caller, for firmware in C or Rust that hears one record at a time. A byte slice goes as a
 // pointer and a length. The rules are in specs/Unit.antt, the desk's bytes in the crate `desk_bytes`. Every function takes any bytes and
-// any numbers. proofs/OneByOne.antt has that records heard one by one, the minutes 0
-// before each call, get what replaying them gives, proofs/Demand3.antt that demand 3 holds of them.
+// any numbers. proofs/OneByOne.antt has that records heard one by one, the minutes 0 before each call, get what replaying them gives,
+// proofs/Demand3.antt that demand 3 holds of them.
 ghost use mathlib.Core.Path.{_≡_};
 ghost use Rattle.packed.specs.Packed.{movementPacked, workPacked};
-ghost use Rattle.unit.specs.Unit.{unitFresh, started, unitApplied, unitMovement, unitWork};
+ghost use Rattle.unit.specs.Unit.{unitFresh, startNumber, started, unitApplied, unitMovement, unitWork};
 use desk::Desk;
 use desk::MovementAnswer;
 use desk::WorkAnswer;
-use station::Station;
+use message::Reading;
+use sheet::Sheet;
 
 // The number that refuses bytes that no desk encodes to.
 pub const NOT_A_DESK: u8 = 61;
@@ -25,56 +26,49 @@ pub extern "C" fn unit_fresh(desk: &mut [u8]) -> u8
     0
 }
 
-// What a record or a question starts from: 0, the sheet's station and the desk; or the number that refuses them.
-struct Start {
-    code: u8,
-    station: Station,
-    desk: Desk,
+// The number that refuses a sheet, else 61 for bytes that are no desk's, else 0.
+fn start_code(code: u8, desk: &[u8]) -> u8
+    ensures { λ r. ⌜ r ≡ startNumber code (now (desk .entry)) ⌝ }
+{
+    if code != 0 {
+        return code;
+    }
+    if !desk_bytes::is_desk(desk) {
+        return NOT_A_DESK;
+    }
+    0
 }
 
-// Reads the sheet and the desk. Refused by the sheet's number, then by 61.
-fn read_both(sheet: &[u8], desk: &[u8]) -> Start
+// The sheet as it was read, with the number that refuses it or the desk's bytes: what a record or a question starts from.
+fn read_start(sheet: &[u8], desk: &[u8]) -> Sheet
     ensures { λ r. ⌜ r ≡ started (now (sheet .entry)) (now (desk .entry)) ⌝ }
 {
-    let read = sheet::read_sheet(sheet);
-    let station = read.station;
-    let d = desk_bytes::decode(desk);
-    if read.code != 0 {
-        return Start {
-            code: read.code,
-            station,
-            desk: d,
-        };
-    }
-    if !desk_bytes::is_encoding(desk, d) {
-        return Start {
-            code: NOT_A_DESK,
-            station,
-            desk: d,
-        };
-    }
-    Start {
-        code: 0,
-        station,
-        desk: d,
-    }
+    let mut read = sheet::read_sheet(sheet);
+    read.code = start_code(read.code, desk);
+    read
 }
 
-// Hears a record; where it is accepted, stores the desk then and the minutes. Refused by the sheet's number, by 61, then as the desk
+// Hears a record; where it is accepted, stores its zone then and the minutes. Refused by the sheet's number, by 61, then as the desk
 // refuses the record.
 #[no_mangle]
 pub extern "C" fn unit_apply(sheet: &[u8], desk: &mut [u8], record: &[u8], minutes: &mut u32) -> u8
     ensures { λ r. ⌜ record { code = r; bytes = now (desk .exit); minutes = now (minutes .exit) } ≡ unitApplied (now (sheet .entry)) (now (desk .entry)) (now («record» .entry)) (now (minutes .entry)) ⌝ }
 {
-    let at = read_both(sheet, desk);
+    let at = read_start(sheet, desk);
     if at.code != 0 {
         return at.code;
     }
-    let a = desk::apply_record(at.station, at.desk, record);
+    let reading = message::read_record(record);
+    let Reading::Accepted(m) = reading else {
+        return message::reading_code(reading);
+    };
+    let place = desk::zone_place(at.station, m);
+    let z = desk_bytes::zone_at(desk, place);
+    let a = desk::zone_hears(at.station, z, m);
     if a.code != 0 {
         return a.code;
     }
-    desk_bytes::encode(a.desk, desk);
+    desk_bytes::put_zone_at(a.zone, desk, place);
     *minutes = a.minutes;
     0
 }
@@ -82,11 +76,11 @@ pub extern "C" fn unit_apply(sheet: &[u8], desk: &mut [u8], record: &[u8], minut
 fn movement(sheet: &[u8], desk: &[u8], zone: u8, train: u32) -> MovementAnswer
     ensures { λ r. ⌜ r ≡ unitMovement (now (sheet .entry)) (now (desk .entry)) zone train ⌝ }
 {
-    let at = read_both(sheet, desk);
+    let at = read_start(sheet, desk);
     if at.code != 0 {
         return desk::movement_refused(at.code);
     }
-    desk::query_movement(at.station, at.desk, zone, train)
+    desk::query_movement(at.station, desk_bytes::decode(desk), zone, train)
 }
 
 // The movement question: the code, the regime, the lowest turnout lacking a clearance, how many lack one, a byte each.
@@ -100,14 +94,14 @@ pub extern "C" fn unit_movement(sheet: &[u8], desk: &[u8], zone: u8, train: u32)
 fn work(sheet: &[u8], desk: &[u8], turnout: u8) -> WorkAnswer
     ensures { λ r. ⌜ r ≡ unitWork (now (sheet .entry)) (now (desk .entry)) turnout ⌝ }
 {
-    let at = read_both(sheet, desk);
+    let at = read_start(sheet, desk);
     if at.code != 0 {
         return WorkAnswer {
             code: at.code,
             yes: false,
         };
     }
-    desk::query_work(at.station, at.desk, turnout)
+    desk::query_work(at.station, desk_bytes::decode(desk), turnout)
 }
 
 // The work question: the code, and 256 if the turnout is open to work.

@@ -1,4 +1,3 @@
--- `unit::movement` meets its contract: each way out is a case of the rule. Assumes nothing.
 use borrow.Author.Tests.{eq-eqb, ne-eqb}
 use Rattle.unit.specs.Unit.{unitMovement}
 use borrow.Author.Needs.{needs}
@@ -8,14 +7,19 @@ use Rattle.unit.proofs.movement.Tie as tie
 returns : tie.Need-returns
 unfolding unitMovement
 returns c =
-    let at = c .before .before .before .read-both in
+    let at = c .before .before .before .read-start in
     rw (c .movement-refused .ensures, ← at .ensures, ne-eqb (at .result .code) 0 (c .before .if1 .taken))
 
 returns-2 : tie.Need-returns-2
 unfolding unitMovement
 returns-2 c =
-    let at = c .before .before .before .read-both in
-    rw (c .query-movement .ensures, ← at .ensures, eq-eqb (at .result .code) 0 (c .before .if1 .left))
+    let at = c .before .before .before .before .read-start in
+    rw (
+      c .query-movement .ensures,
+      c .before .decode .ensures,
+      ← at .ensures,
+      eq-eqb (at .result .code) 0 (c .before .before .if1 .left),
+    )
 
 pub movement-spec : {M : Type 1} → statement M
 movement-spec =
@@ -24,5 +28,6 @@ movement-spec =
     (λ c κs. search needs)
     (λ c κs. search needs)
     returns
+    (λ c κs. search needs)
     (λ c κs. search needs)
     returns-2)

@@ -1,4 +1,4 @@
--- `unit::unit_fresh` meets its contract: each way out is a case of the rule; the desk covers the whole buffer. Assumes nothing.
+-- Each way out is a case of the rule; the desk covers the whole buffer.
 use denote.Ref.{now}
 use mathlib.Core.Path.{sym, _∙_}
 use lib.ListN.{length}

@@ -1,4 +1,4 @@
--- `unit::unit_movement` meets its contract: the answer is packed in one number. Assumes nothing.
+-- The answer is packed in one number.
 use borrow.Author.Needs.{needs}
 use Rattle.unit.proofs.unit_movement.Statement.{statement}
 use Rattle.unit.proofs.unit_movement.Tie as tie

@@ -1,4 +1,4 @@
--- `unit::unit_work` meets its contract: the answer is packed in one number. Assumes nothing.
+-- The answer is packed in one number.
 use borrow.Author.Needs.{needs}
 use Rattle.unit.proofs.unit_work.Statement.{statement}
 use Rattle.unit.proofs.unit_work.Tie as tie

@@ -1,4 +1,3 @@
--- `unit::work` meets its contract: each way out is a case of the rule. Assumes nothing.
 use borrow.Author.Tests.{eq-eqb, ne-eqb}
 use Rattle.unit.specs.Unit.{unitWork}
 use borrow.Author.Needs.{needs}
@@ -8,14 +7,21 @@ use Rattle.unit.proofs.work.Tie as tie
 returns : tie.Need-returns
 unfolding unitWork
 returns c =
-    let at = c .before .before .read-both in
+    let at = c .before .before .read-start in
     rw (← at .ensures, ne-eqb (at .result .code) 0 (c .if1 .taken))
 
 returns-2 : tie.Need-returns-2
 unfolding unitWork
 returns-2 c =
-    let at = c .before .before .before .read-both in
-    rw (c .query-work .ensures, ← at .ensures, eq-eqb (at .result .code) 0 (c .before .if1 .left))
+    let at = c .before .before .before .before .read-start in
+    rw (
+      c .query-work .ensures,
+      c .before .decode .ensures,
+      ← at .ensures,
+      eq-eqb (at .result .code) 0 (c .before .before .if1 .left),
+    )
 
 pub work-spec : {M : Type 1} → statement M
-work-spec = tie.close (tie.spec (λ c κs. search needs) returns (λ c κs. search needs) returns-2)
+work-spec =
+    tie.close
+    (tie.spec (λ c κs. search needs) returns (λ c κs. search needs) (λ c κs. search needs) returns-2)

@@ -11,7 +11,7 @@ use Rattle.station.specs.declared.Route.{Route}
 use Rattle.station.specs.declared.Station.{Station}
 use Rattle.station.specs.Station.{emptyTurnout, emptyRoute}
 
--- "Header, 8 bytes: the letters SPT, version (16 bits, 1), counts P of turnouts, R of routes, Z of zones, a byte each"
+-- "Header, 8 bytes: the letters SPT, version (16 bits, 1), counts P of turnouts .., R of routes .., Z of zones .., a byte each."
 abbrev pub hasMark : List ℕ → Bool
 hasMark s = eqb (getD s 0 0) 83 && eqb (getD s 1 0) 80 && eqb (getD s 2 0) 84
 
@@ -27,16 +27,24 @@ countR s = getD s 6 0
 abbrev pub countZ : List ℕ → ℕ
 countZ s = getD s 7 0
 
+-- "version (16 bits, 1)"
+abbrev pub versionKept : ℕ → Bool
+versionKept v = eqb v 1
+
+-- at most so many turnouts and routes
+abbrev pub withinLimits : ℕ → ℕ → ℕ → ℕ → Bool
+withinLimits turnouts routes p r = leb p turnouts && leb r routes
+
 -- "P of turnouts (1 to 64), R of routes (0 to 64), Z of zones (1 to 8)"
 abbrev pub countsKept : ℕ → ℕ → ℕ → Bool
-countsKept p r z = leb 1 p && leb p 64 && leb r 64 && leb 1 z && leb z 8
+countsKept p r z = leb 1 p && withinLimits 64 64 p r && leb 1 z && leb z 8
 
 -- "The length is exactly 8 + 3P + 33R."
 abbrev pub sheetLength : ℕ → ℕ → ℕ
 sheetLength p r = 8 + 3 * p + 33 * r
 
-abbrev pub versionKept : ℕ → Bool
-versionKept v = eqb v 1
+abbrev pub lengthKept : List ℕ → Bool
+lengthKept s = eqb (length s) (sheetLength (countP s) (countR s))
 
 -- "Order: under 8 bytes, mark, version, counts (zone byte included), length": the number of the first that fails, else 0
 unfoldable pub headerNumber : List ℕ → ℕ
@@ -45,10 +53,10 @@ headerNumber s =
     (cond (not (hasMark s)) 2
     (cond (not (versionKept (version s))) 3
     (cond (not (countsKept (countP s) (countR s) (countZ s))) 4
-    (cond (not (eqb (length s) (sheetLength (countP s) (countR s)))) 1
+    (cond (not (lengthKept s)) 1
     0))))
 
--- "turnout records of 3 bytes: zone; partner; drive": the record at an index
+-- "turnout records of 3 bytes: zone ..; partner ..; drive ..": the record at an index
 abbrev pub turnoutIn : List ℕ → ℕ → Turnout
 turnoutIn s at = record { zone = getD s at 0; partner = getD s (at + 1) 0; drive = getD s (at + 2) 0 }
 

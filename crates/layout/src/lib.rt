@@ -5,6 +5,7 @@ ghost use Prim.Native.Nat.{_<_};
 ghost use Rattle.layout.specs.Layout.{
   hasMark,
   versionKept,
+  withinLimits,
   countsKept,
   headerNumber,
   turnoutIn,
@@ -44,11 +45,18 @@ fn has_mark(s: &[u8]) -> bool
         & (bigendian::get8(s, 2) == b'T')
 }
 
+// Whether there are at most so many turnouts and routes.
+fn within_limits(turnouts: u8, routes: u8, p: u8, r: u8) -> bool
+    ensures { λ b. ⌜ b ≡ withinLimits turnouts routes p r ⌝ }
+{
+    (p <= turnouts) & (r <= routes)
+}
+
 // Whether P, R and Z are in range.
 fn counts_kept(p: u8, r: u8, z: u8) -> bool
     ensures { λ b. ⌜ b ≡ countsKept p r z ⌝ }
 {
-    (1 <= p) & (p <= 64) & (r <= 64) & (1 <= z) & (z <= 8)
+    (1 <= p) & within_limits(64, 64, p, r) & (1 <= z) & (z <= 8)
 }
 
 // Whether a version is one that can be read.

@@ -1,10 +1,9 @@
--- What an accepted sheet guarantees of its station: document 01, 'Station sheet', sentence by sentence.
--- Assumes nothing.
-use mathlib.Core.Bool.{Bool, true, false, cond, not, _||_}
-use mathlib.Core.Logic.{_≢_, _⊎_, inl, inr}
+-- The station of an accepted sheet passes the reader's tests, has all that document 01 asks, and is accepted as it is.
+use mathlib.Core.Bool.{Bool, true, false, cond, not, _||_, and-eq-true-iff}
+use mathlib.Core.Logic.{_≢_, inl, inr}
 use mathlib.Core.Path.{_≡_, refl, ap, _∙_}
 use mathlib.Core.List.{List}
-use Prim.Native.Nat.{ℕ, _≤_, _<_}
+use Prim.Native.Nat.{ℕ, _<_}
 use native.Mathlib.Omega.{arith}
 use borrow.Author.Tests.{eqb-true, eqb-false, leb-true, ltb-true, ltb-false, not-true, not-false}
 use lib.Dec.{eqb, ltb, leb}
@@ -13,61 +12,14 @@ use Rattle.sets.specs.Range.{firstFrom}
 use Rattle.sets.proofs.Ranges.{none-below, not-found}
 use Rattle.station.specs.declared.Station.{Station}
 use Rattle.sheet.specs.declared.Sheet.{Sheet}
-use Rattle.station.specs.Station.{emptyTurnout, emptyRoute, turnoutAt, routeAt, turnoutCount, routeCount, zoneCount, zoneOf, driveOf}
-use Rattle.layout.specs.Layout.{hasMark, version, countP, countR, countZ, countsKept, sheetLength, headerNumber, turnoutIn, turnoutPlace, routeIn, routePlace, stationIn}
+use Rattle.station.specs.Station.{emptyTurnout, emptyRoute, turnoutAt, turnoutCount, routeCount, zoneCount}
+use Rattle.layout.specs.Layout.{hasMark, version, versionKept, countP, countR, countZ, withinLimits, countsKept, lengthKept, headerNumber, turnoutIn, turnoutPlace, routeIn, routePlace, stationIn}
+use Rattle.sheet.specs.Accepted.{GoodCounts, Crossover, GoodTurnout, Passed, Accepted}
 use Rattle.sheet.specs.Partners.{partnerKept, goodTurnout, badTurnout}
 use Rattle.sheet.specs.Sheet.{goodRoute, badRoute, refusedSheet, acceptedSheet, routesJudged, judged, readSheet}
-use Rattle.sheet.proofs.Joined.{three, five, either}
+use Rattle.sheet.proofs.Joined.{three, four, five, either}
 use Rattle.sets.proofs.Tables.{places-past}
 use Rattle.sheet.proofs.AcceptedRoute.{good-route}
-pub use Rattle.sheet.proofs.AcceptedRoute.{GoodRoute}
-
--- "counts P of turnouts (1 to 64), R of routes (0 to 64), Z of zones (1 to 8)"
-pub record GoodCounts (st : Station) : Type 0 where
-  pub some-turnout : 1 ≤ st .turnouts
-  pub turnouts-limit : st .turnouts ≤ 64
-  pub routes-limit : st .routes ≤ 64
-  pub some-zone : 1 ≤ st .zones
-  pub zones-limit : st .zones ≤ 8
-
--- turnout n is an end of a crossover
-pub record Crossover (st : Station) (n : ℕ) : Type 0 where
-  -- "A partner is below P, ..
-  pub below : turnoutAt st n .partner < st .turnouts
-  -- .. not itself, ..
-  pub other : turnoutAt st n .partner ≢ n
-  -- .. names it back, ..
-  pub back : turnoutAt st (turnoutAt st n .partner) .partner ≡ n
-  -- .. and has the same zone ..
-  pub same-zone : zoneOf st (turnoutAt st n .partner) ≡ zoneOf st n
-  -- .. and drive."
-  pub same-drive : driveOf st (turnoutAt st n .partner) ≡ driveOf st n
-
--- what document 01 asks of turnout n
-pub record GoodTurnout (st : Station) (n : ℕ) : Type 0 where
-  -- "zone (below Z)"
-  pub zone : zoneOf st n < st .zones
-  -- "drive (0 electric, 1 hand with key lock)"
-  pub drive : driveOf st n ≤ 1
-  -- "partner (the other end of a crossover, or 255 for none)"
-  pub partner : (turnoutAt st n .partner ≡ 255) ⊎ Crossover st n
-
--- what the reader's tests find of a station, counts in range: the writer asks the same
-pub record Passed (st : Station) : Type 0 where
-  pub counts : GoodCounts st
-  pub turnout : (n : ℕ) → n < st .turnouts → goodTurnout st n ≡ true
-  pub route : (r : ℕ) → r < st .routes → goodRoute st r ≡ true
-  pub past-turnouts : (n : ℕ) → st .turnouts ≤ n → turnoutAt st n ≡ emptyTurnout
-  pub past-routes : (r : ℕ) → st .routes ≤ r → routeAt st r ≡ emptyRoute
-
--- all that document 01 asks of a station
-pub record Accepted (st : Station) : Type 0 where
-  pub counts : GoodCounts st
-  pub turnout : (n : ℕ) → n < st .turnouts → GoodTurnout st n
-  pub route : (r : ℕ) → r < st .routes → GoodRoute st r
-  -- "Records past P and R are 0 in the station."
-  pub past-turnouts : (n : ℕ) → st .turnouts ≤ n → turnoutAt st n ≡ emptyTurnout
-  pub past-routes : (r : ℕ) → st .routes ≤ r → routeAt st r ≡ emptyRoute
 
 -- a station whose counts are in range, so that the tests read them as they stand
 module _ (st : Station) (counts : GoodCounts st) where
@@ -107,15 +59,16 @@ good-counts s h =
     let p = countP s in
     let r = countR s in
     let z = countZ s in
-    let later : ℕ = cond (not (eqb (length s) (sheetLength p r))) 1 0 in
-    let in-range = go (ltb (length s) 8) (hasMark s) (eqb (version s) 1) (countsKept p r z) later h in
-    let kept = five (leb 1 p) (leb p 64) (leb r 64) (leb 1 z) (leb z 8) in-range in
+    let later : ℕ = cond (not (lengthKept s)) 1 0 in
+    let in-range = go (ltb (length s) 8) (hasMark s) (versionKept (version s)) (countsKept p r z) later h in
+    let kept = four (leb 1 p) (withinLimits 64 64 p r) (leb 1 z) (leb z 8) in-range in
+    let limits = and-eq-true-iff (leb p 64) (leb r 64) .0 (kept .1) in
     record {
       some-turnout = leb-true 1 p (kept .0);
-      turnouts-limit = leb-true p 64 (kept .1);
-      routes-limit = leb-true r 64 (kept .2);
-      some-zone = leb-true 1 z (kept .3);
-      zones-limit = leb-true z 8 (kept .4);
+      turnouts-limit = leb-true p 64 (limits .0);
+      routes-limit = leb-true r 64 (limits .1);
+      some-zone = leb-true 1 z (kept .2);
+      zones-limit = leb-true z 8 (kept .3);
     }
   where
     go : (a b c d : Bool) (later : ℕ) → cond a 1 (cond (not b) 2 (cond (not c) 3 (cond (not d) 4 later))) ≡ 0 → d ≡ true
@@ -155,6 +108,16 @@ passed st h =
       none-bad (goodRoute st) (routeCount st) (routes .0),
     )
 
+-- a station that passes the tests has all that document 01 asks
+pub all-asked : (st : Station) → Passed st → Accepted st
+all-asked st p = record {
+  counts = p .counts;
+  turnout = λ n l. good-turnout st (p .counts) n (p .turnout n l);
+  route = λ r l. good-route st (p .counts .turnouts-limit) r (p .route r l);
+  past-turnouts = p .past-turnouts;
+  past-routes = p .past-routes;
+}
+
 module _ (s : List ℕ) (code-zero : readSheet s .code ≡ 0) where
   -- no fault in the header, and the answer is the judgement of the station in the bytes
   headed : (headerNumber s ≡ 0) × (readSheet s ≡ judged (stationIn s))
@@ -188,18 +151,15 @@ module _ (s : List ℕ) (code-zero : readSheet s .code ≡ 0) where
         past-routes = places-past (λ i. routeIn s (routePlace (countP s) i)) (countR s) emptyRoute;
       }
 
--- a station that passes the tests has all that document 01 asks
-pub accepted : (st : Station) → Passed st → Accepted st
-accepted st p = record {
-  counts = p .counts;
-  turnout = λ n l. good-turnout st (p .counts) n (p .turnout n l);
-  route = λ r l. good-route st (p .counts .turnouts-limit) r (p .route r l);
-  past-turnouts = p .past-turnouts;
-  past-routes = p .past-routes;
-}
+  -- and so has all that document 01 asks
+  pub accepted : Accepted (readSheet s .station)
+  accepted = all-asked (readSheet s .station) passes
 
--- and is accepted as it is
+-- a station that passes the tests is accepted as it is
 pub fixed : (st : Station) → Passed st → judged st ≡ acceptedSheet st
 unfolding judged routesJudged badTurnout badRoute
 fixed st p =
-    rw (not-found (goodTurnout st) (turnoutCount st) (λ n l. p .turnout n (omega arith)), not-found (goodRoute st) (routeCount st) (λ r l. p .route r (omega arith)))
+    rw (
+      not-found (goodTurnout st) (turnoutCount st) (λ n l. p .turnout n (omega arith)),
+      not-found (goodRoute st) (routeCount st) (λ r l. p .route r (omega arith)),
+    )

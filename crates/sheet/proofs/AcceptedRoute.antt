@@ -1,6 +1,5 @@
--- What a route that passes the tests of a sheet guarantees: document 01, 'Station sheet'.
--- Assumes nothing.
-use mathlib.Core.Bool.{Bool, true, false, not, _||_, and-eq-true-iff}
+-- A route that passes the tests of a sheet has all that document 01 asks of it.
+use mathlib.Core.Bool.{true, not, _||_, and-eq-true-iff}
 use mathlib.Core.Path.{_≡_}
 use Prim.Native.Nat.{ℕ, _≤_, _<_}
 use native.Mathlib.Omega.{arith}
@@ -14,29 +13,9 @@ use Rattle.sets.proofs.Members.{among-below}
 use Rattle.station.specs.declared.Route.{Route}
 use Rattle.station.specs.declared.Station.{Station}
 use Rattle.station.specs.Station.{turnoutAt, routeAt, turnoutCount, zoneOf, tied, namedBy, whole}
+use Rattle.sheet.specs.Accepted.{GoodRoute}
 use Rattle.sheet.specs.Sheet.{allTurnouts, setsKept, memberKept, goodRoute}
 use Rattle.sheet.proofs.Joined.{three, six, asked}
-
--- what document 01 asks of route r
-pub record GoodRoute (st : Station) (r : ℕ) : Type 0 where
-  -- "The first three are pairwise disjoint"
-  pub over-flank : overlaps (routeAt st r .over) (routeAt st r .flank) ≡ false
-  pub over-exits : overlaps (routeAt st r .over) (routeAt st r .exits) ≡ false
-  pub flank-exits : overlaps (routeAt st r .flank) (routeAt st r .exits) ≡ false
-  -- "their union is what the route names. It lies among the P turnouts, ..
-  pub named-below : (t : ℕ) → has (namedBy (routeAt st r)) t ≡ true → t < st .turnouts
-  -- .. in the route's zone"
-  pub named-zone : (t : ℕ) → has (namedBy (routeAt st r)) t ≡ true → zoneOf st t ≡ routeAt st r .zone
-  -- "run over is not empty"
-  pub runs-over : isEmpty (routeAt st r .over) ≡ false
-  -- "reverse lies within the union"
-  pub reverse-named : within (routeAt st r .reverse) (namedBy (routeAt st r)) ≡ true
-  -- "A flank turnout's partner is flank too (Art. 3.24)."
-  pub flank-whole :
-      (t : ℕ) → t < st .turnouts → has (routeAt st r .flank) t ≡ true → within (tied st t) (routeAt st r .flank) ≡ true
-  -- "Both ends of a crossover, if named, have the same position."
-  pub one-position :
-      (t : ℕ) → t < st .turnouts → whole (bitAnd (tied st t) (namedBy (routeAt st r))) (routeAt st r .reverse) ≡ true
 
 module _ (st : Station) where
   -- what the tests of a route say of each turnout

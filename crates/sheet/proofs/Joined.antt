@@ -1,5 +1,4 @@
 -- Tests joined by && and ||, taken apart.
--- Assumes nothing.
 use mathlib.Core.Bool.{Bool, true, false, not, _&&_, _||_, and-eq-true-iff, false≢true}
 use mathlib.Core.Logic.{_⊎_, inl, inr}
 use mathlib.Core.Path.{_≡_, refl}
@@ -10,6 +9,13 @@ three a b c h =
     let outer = and-eq-true-iff (a && b) c .0 h in
     let inner = and-eq-true-iff a b .0 (outer .0) in
     (inner .0, inner .1, outer .1)
+
+-- each of four
+pub four : (a b c d : Bool) → (a && b && c && d) ≡ true → (a ≡ true) × (b ≡ true) × (c ≡ true) × (d ≡ true)
+four a b c d h =
+    let outer = and-eq-true-iff (a && b && c) d .0 h in
+    let inner = three a b c (outer .0) in
+    (inner .0, inner .1, inner .2, outer .1)
 
 -- each of five
 pub five : (a b c d e : Bool) → (a && b && c && d && e) ≡ true → (a ≡ true) × (b ≡ true) × (c ≡ true) × (d ≡ true) × (e ≡ true)

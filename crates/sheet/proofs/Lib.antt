@@ -1,3 +1,4 @@
 pub mod Joined
 pub mod AcceptedRoute
 pub mod Accepted
+pub mod Judging

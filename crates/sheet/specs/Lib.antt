@@ -1,2 +1,3 @@
 pub mod Partners
 pub mod Sheet
+pub mod Accepted

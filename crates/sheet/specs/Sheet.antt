@@ -2,15 +2,16 @@
 use mathlib.Core.Bool.{Bool, cond, not, _&&_, _||_}
 use mathlib.Core.List.{List}
 use Prim.Native.Nat.{ℕ, _^_, _-_}
-use lib.Dec.{eqb, ltb, leb}
+use lib.Dec.{eqb, ltb}
 use lib.Bits.{bitAnd}
 use Rattle.sets.specs.Range.{firstFrom, allFrom}
 use Rattle.sets.specs.Sets.{has, isEmpty, overlaps, within}
 use Rattle.station.specs.declared.Turnout.{Turnout}
 use Rattle.station.specs.declared.Route.{Route}
 use Rattle.station.specs.declared.Station.{Station}
+use Rattle.sheet.specs.declared.Finding.{Finding}
 use Rattle.sheet.specs.declared.Sheet.{Sheet}
-use Rattle.station.specs.Station.{emptyStation, turnoutAt, routeAt, turnoutCount, routeCount, zoneCount, tied, namedBy, whole}
+use Rattle.station.specs.Station.{emptyStation, turnoutAt, routeAt, turnoutCount, routeCount, tied, namedBy, whole}
 use Rattle.sheet.specs.Partners.{badTurnout}
 use Rattle.layout.specs.Layout.{headerNumber, stationIn}
 
@@ -51,13 +52,17 @@ refusedSheet number place = record { code = number; index = place; station = emp
 abbrev pub acceptedSheet : Station → Sheet
 acceptedSheet st = record { code = 0; index = 0; station = st }
 
--- a station whose turnouts are good, or the number and index of its first bad route
+-- routes: the station, or the number and index of its first bad route; asked where its turnouts are good
 unfoldable pub routesJudged : Station → Sheet
 routesJudged st = cond (ltb (badRoute st) (routeCount st)) (refusedSheet 6 (badRoute st)) (acceptedSheet st)
 
--- ".. turnouts, routes": a station whose counts are in range, or the number and index of its first bad record
+-- ".. turnouts, routes": the station, or the number and index of its first bad record; asked where its counts are in range
 unfoldable pub judged : Station → Sheet
 judged st = cond (ltb (badTurnout st) (turnoutCount st)) (refusedSheet 5 (badTurnout st)) (routesJudged st)
+
+-- the number and the index of an answer
+abbrev pub findingOf : Sheet → Finding
+findingOf a = record { code = a .code; index = a .index }
 
 -- the answer to any bytes as a sheet
 unfoldable pub readSheet : List ℕ → Sheet

@@ -6,12 +6,14 @@ ghost use Rattle.sheet.specs.Sheet.{
   memberKept,
   badRoute,
   refusedSheet,
+  findingOf,
   routesJudged,
   judged,
 };
 ghost use Prim.Native.Nat.{min};
 use super::BAD_ROUTE;
 use super::BAD_TURNOUT;
+use super::Finding;
 use super::Sheet;
 use super::partners;
 use station::Route;
@@ -99,28 +101,30 @@ pub fn refused(code: u8, index: u8) -> Sheet
     }
 }
 
-// A station whose turnouts are good, or the number and index of its first bad route.
-fn judge_routes(st: Station) -> Sheet
-    ensures { λ r. ⌜ r ≡ routesJudged st ⌝ }
+// The finding on a station whose turnouts are good: its first bad route.
+fn judge_routes(st: Station) -> Finding
+    ensures { λ r. ⌜ r ≡ findingOf (routesJudged st) ⌝ }
 {
     let r = first_bad_route(st);
     if r < route_count(st) {
-        return refused(BAD_ROUTE, r as u8);
+        return Finding {
+            code: BAD_ROUTE,
+            index: r as u8,
+        };
     }
-    Sheet {
-        code: 0,
-        index: 0,
-        station: st,
-    }
+    Finding { code: 0, index: 0 }
 }
 
-// The station, or the number and index of its first bad record.
-pub fn judge(st: Station) -> Sheet
-    ensures { λ r. ⌜ r ≡ judged st ⌝ }
+// The finding on a station: its first bad record.
+pub fn judge(st: Station) -> Finding
+    ensures { λ r. ⌜ r ≡ findingOf (judged st) ⌝ }
 {
     let t = partners::first_bad_turnout(st);
     if t < turnout_count(st) {
-        return refused(BAD_TURNOUT, t as u8);
+        return Finding {
+            code: BAD_TURNOUT,
+            index: t as u8,
+        };
     }
     judge_routes(st)
 }

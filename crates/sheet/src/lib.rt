@@ -19,6 +19,12 @@ pub struct Sheet {
     pub station: station::Station,
 }
 
+// What judging a station finds: 0, or the number and the index of its first bad record. Smaller than a Sheet, which holds the station.
+pub struct Finding {
+    pub code: u8,
+    pub index: u8,
+}
+
 // Reads a sheet.
 pub fn read_sheet(s: &[u8]) -> Sheet
     ensures { λ r. ⌜ r ≡ readSheet (now (s .entry)) ⌝ }
@@ -27,5 +33,14 @@ pub fn read_sheet(s: &[u8]) -> Sheet
     if code != 0 {
         return judge::refused(code, 0);
     }
-    judge::judge(layout::station_in(s))
+    let station = layout::station_in(s);
+    let found = judge::judge(station);
+    if found.code != 0 {
+        return judge::refused(found.code, found.index);
+    }
+    Sheet {
+        code: 0,
+        index: 0,
+        station,
+    }
 }

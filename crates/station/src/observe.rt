@@ -46,8 +46,13 @@ pub fn no_route() -> Route
 pub fn no_routes() -> [Route; 64]
     ensures { λ r. ⌜ r ≡ replicate 64 emptyRoute ⌝ }
 {
-    let r = no_route();
-    [r; 64]
+    [Route {
+        zone: 0,
+        over: 0,
+        flank: 0,
+        exits: 0,
+        reverse: 0,
+    }; 64]
 }
 
 // The record of a turnout, as stored; every number 0 from 64 on.

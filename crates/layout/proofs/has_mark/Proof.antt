@@ -1,4 +1,3 @@
--- `layout::has_mark` meets its contract: the rule, from what each call ensures. Assumes nothing.
 use borrow.Author.Needs.{needs}
 use Rattle.layout.proofs.has_mark.Statement.{statement}
 use Rattle.layout.proofs.has_mark.Tie as tie

@@ -1,4 +1,3 @@
--- `layout::header_code` meets its contract: the rule, from what each call ensures. Assumes nothing.
 use Rattle.layout.specs.Layout.{headerNumber}
 use borrow.Author.Needs.{needs}
 use Rattle.layout.proofs.header_code.Statement.{statement}

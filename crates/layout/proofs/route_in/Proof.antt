@@ -1,4 +1,3 @@
--- `layout::route_in` meets its contract: the rule, from what each call ensures. Assumes nothing.
 use borrow.Author.Needs.{needs}
 use Rattle.layout.proofs.route_in.Statement.{statement}
 use Rattle.layout.proofs.route_in.Tie as tie

@@ -1,4 +1,3 @@
--- `layout::station_in` meets its contract: the rule, from what each call ensures. Assumes nothing.
 use Rattle.layout.specs.Layout.{stationIn}
 use borrow.Author.Needs.{needs}
 use Rattle.layout.proofs.station_in.Statement.{statement}

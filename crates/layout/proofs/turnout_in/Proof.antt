@@ -1,4 +1,3 @@
--- `layout::turnout_in` meets its contract: the rule, from what each call ensures. Assumes nothing.
 use borrow.Author.Needs.{needs}
 use Rattle.layout.proofs.turnout_in.Statement.{statement}
 use Rattle.layout.proofs.turnout_in.Tie as tie

@@ -1,4 +1,3 @@
--- `station::names` meets its contract: the rule, from what each call ensures. Assumes nothing.
 use borrow.Author.Needs.{needs}
 use Rattle.station.proofs.names.Statement.{statement}
 use Rattle.station.proofs.names.Tie as tie

@@ -1,4 +1,3 @@
--- `station::route_of` meets its contract: each way out is a case of the rule. Assumes nothing.
 use borrow.Author.Tests.{lt-ltb, le-ltb}
 use Rattle.station.specs.Station.{theRoute}
 use borrow.Author.Needs.{needs}

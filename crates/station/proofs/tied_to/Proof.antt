@@ -1,4 +1,3 @@
--- `station::tied_to` meets its contract: the rule, from what each call ensures. Assumes nothing.
 use Rattle.station.specs.Station.{tied}
 use borrow.Author.Needs.{needs}
 use Rattle.station.proofs.tied_to.Statement.{statement}

@@ -1,4 +1,4 @@
--- `station::turnouts_of_zone` meets its contract: the invariant is the set found so far. Assumes nothing.
+-- The invariant is the set found so far.
 use mathlib.Core.Path.{_≡_, refl, ap, _∙_}
 use Prim.Native.Nat.{_-_, _≤_}
 use native.Mathlib.Numerals.{add-one}

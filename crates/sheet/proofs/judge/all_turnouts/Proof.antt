@@ -1,4 +1,3 @@
--- `sheet::judge::all_turnouts` meets its contract: each way out is a case of the rule. Assumes nothing.
 use mathlib.Core.Path.{_≡_, _∙_}
 use Prim.Native.Nat.{min}
 use native.Mathlib.Omega.{arith}

@@ -1,4 +1,4 @@
--- `sheet::judge::first_bad_route` meets its contract: both invariants say that what is still to be found is the answer; the label leaves both loops with the index. Assumes nothing.
+-- Both invariants say that what is still to be found is the answer; the label leaves both loops with the index.
 use mathlib.Core.Path.{_≡_, sym, ap, _∙_}
 use mathlib.Core.Bool.{Bool, true, false, not, _&&_}
 use Prim.Native.Nat.{ℕ, _-_, _≤_, min}

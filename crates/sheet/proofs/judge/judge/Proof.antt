@@ -1,4 +1,3 @@
--- `sheet::judge::judge` meets its contract: each way out is a case of the rule. Assumes nothing.
 use borrow.Author.Tests.{lt-ltb, le-ltb}
 use Rattle.sheet.specs.Sheet.{judged}
 use borrow.Author.Needs.{needs}
@@ -8,9 +7,9 @@ use Rattle.sheet.proofs.judge.judge.Tie as tie
 returns : tie.Need-returns
 unfolding judged
 returns c =
-    let t = c .before .before .before .first-bad-turnout in
-    let p = c .before .before .turnout-count in
-    rw (c .refused .ensures, ← t .ensures, ← p .ensures, lt-ltb (t .result) (p .result) (c .before .if1 .taken))
+    let t = c .before .before .first-bad-turnout in
+    let p = c .before .turnout-count in
+    rw (← t .ensures, ← p .ensures, lt-ltb (t .result) (p .result) (c .if1 .taken))
 
 returns-2 : tie.Need-returns-2
 unfolding judged
@@ -26,7 +25,6 @@ judge-spec =
     (λ c κs. search needs)
     (λ c κs. search needs)
     (λ c. search needs)
-    (λ c κs. search needs)
     returns
     (λ c κs. search needs)
     returns-2)

@@ -7,9 +7,9 @@ use Rattle.sheet.proofs.judge.judge_routes.Tie as tie
 returns : tie.Need-returns
 unfolding routesJudged
 returns c =
-    let r = c .before .before .before .first-bad-route in
-    let n = c .before .before .route-count in
-    rw (c .refused .ensures, ← r .ensures, ← n .ensures, lt-ltb (r .result) (n .result) (c .before .if1 .taken))
+    let r = c .before .before .first-bad-route in
+    let n = c .before .route-count in
+    rw (← r .ensures, ← n .ensures, lt-ltb (r .result) (n .result) (c .if1 .taken))
 
 returns-2 : tie.Need-returns-2
 unfolding routesJudged
@@ -21,10 +21,4 @@ returns-2 c =
 pub judge-routes-spec : {M : Type 1} → statement M
 judge-routes-spec =
     tie.close
-    (tie.spec
-    (λ c κs. search needs)
-    (λ c κs. search needs)
-    (λ c. search needs)
-    (λ c κs. search needs)
-    returns
-    returns-2)
+    (tie.spec (λ c κs. search needs) (λ c κs. search needs) (λ c. search needs) returns returns-2)

@@ -1,4 +1,3 @@
--- `sheet::judge::member_kept` meets its contract: the rule, from what each call ensures. Assumes nothing.
 use borrow.Author.Needs.{needs}
 use Rattle.sheet.proofs.judge.member_kept.Statement.{statement}
 use Rattle.sheet.proofs.judge.member_kept.Tie as tie

@@ -1,4 +1,3 @@
--- `sheet::judge::refused` meets its contract: the rule, from what each call ensures. Assumes nothing.
 use Rattle.station.specs.Station.{emptyStation}
 use borrow.Author.Needs.{needs}
 use Rattle.sheet.proofs.judge.refused.Statement.{statement}

@@ -1,4 +1,4 @@
--- `sheet::partners::first_bad_turnout` meets its contract: the invariant says that what is still to be found is the answer. Assumes nothing.
+-- The invariant says that what is still to be found is the answer.
 use native.Mathlib.Nat.{sub-zero}
 use native.Mathlib.Omega.{arith}
 use Rattle.sets.proofs.Ranges.{first-next, first-end}

@@ -1,4 +1,3 @@
--- `sheet::partners::turnout_kept` meets its contract: the rule, from what each call ensures. Assumes nothing.
 use borrow.Author.Needs.{needs}
 use Rattle.sheet.proofs.partners.turnout_kept.Statement.{statement}
 use Rattle.sheet.proofs.partners.turnout_kept.Tie as tie

@@ -1,4 +1,3 @@
--- `station::observe::is_whole` meets its contract: the rule, from what each call ensures. Assumes nothing.
 use borrow.Author.Needs.{needs}
 use Rattle.station.proofs.observe.is_whole.Statement.{statement}
 use Rattle.station.proofs.observe.is_whole.Tie as tie

@@ -1,4 +1,3 @@
--- `station::observe::record_of` meets its contract: each way out is a case of the rule. Assumes nothing.
 use mathlib.Core.Path.{_≡_, sym}
 use Prim.Native.Nat.{_≤_}
 use native.Mathlib.Omega.{arith}

@@ -1,4 +1,3 @@
--- `station::observe::tied_with` meets its contract: each way out is a case of the rule. Assumes nothing.
 use borrow.Author.Tests.{lt-ltb, le-ltb}
 use Rattle.station.specs.Station.{tiedWith}
 use lib.Bits.{or-zero-r}

@@ -1,4 +1,3 @@
--- `station::observe::with_turnout` meets its contract: each way out is a case of the rule. Assumes nothing.
 use mathlib.Core.Path.{sym}
 use lib.Bits.{or-zero-r}
 use borrow.Author.Needs.{needs}

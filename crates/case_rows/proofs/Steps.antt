@@ -1,4 +1,4 @@
--- Laws of repeated steps, of a byte within a list, and of names: a name lies within the text. Assumes nothing.
+-- Laws of repeated steps, of a byte within a list, and of names: a name lies within the text.
 use mathlib.Core.Path.{_≡_, refl, ap, _∙_}
 use mathlib.Core.Bool.{Bool, true, false}
 use mathlib.Core.List.{List, [], _∷_}

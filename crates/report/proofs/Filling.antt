@@ -1,5 +1,4 @@
 -- Laws of bytes that are put one after another, of decimal digits, and of the lines of answers.
--- Assumes nothing.
 use mathlib.Core.Path.{_≡_, refl, sym, ap, _∙_}
 use mathlib.Core.Bool.{Bool, true, false, cond}
 use mathlib.Core.List.{List, [], _∷_, _++_}

@@ -1,4 +1,4 @@
--- `case_rows::after_letter` meets its contract: the test of the byte is the code's. Assumes nothing.
+-- The test of the byte is the code's.
 use borrow.Author.Tests.{le-leb, lt-leb}
 use Rattle.case_rows.specs.Rows.{afterLetter}
 use borrow.Author.Needs.{needs}

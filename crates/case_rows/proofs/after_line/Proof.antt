@@ -1,4 +1,4 @@
--- `case_rows::after_line` meets its contract: the invariant says that the steps left give the whole. Assumes nothing.
+-- The invariant says that the steps left give the whole.
 use mathlib.Core.Path.{_≡_, refl, ap, _∙_}
 use Prim.Native.Nat.{_-_}
 use denote.Ref.{now}

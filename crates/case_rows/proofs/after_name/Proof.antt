@@ -1,4 +1,4 @@
--- `case_rows::after_name` meets its contract: the invariant says that the steps left give the whole. Assumes nothing.
+-- The invariant says that the steps left give the whole.
 use mathlib.Core.Path.{_≡_, refl}
 use Prim.Native.Nat.{_-_}
 use denote.Ref.{now}

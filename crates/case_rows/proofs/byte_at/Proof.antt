@@ -1,4 +1,4 @@
--- `case_rows::byte_at` meets its contract: past the end the default of `getD` is what is read. Assumes nothing.
+-- Past the end the default of `getD` is what is read.
 use mathlib.Core.Path.{sym}
 use lib.ListN.{List·getD-eq-default}
 use denote.Ref.{now}

@@ -1,4 +1,4 @@
--- `case_rows::name` meets its contract: the name lies within the text. Assumes nothing.
+-- The name lies within the text.
 use Prim.Native.Nat.{_-_, _≤_}
 use native.Mathlib.Omega.{arith}
 use denote.Ref.{now}

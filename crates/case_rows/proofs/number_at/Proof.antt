@@ -1,4 +1,4 @@
--- `case_rows::number_at` meets its contract: the invariant says that the digits left give the whole. Assumes nothing.
+-- The invariant says that the digits left give the whole.
 use mathlib.Core.Path.{_≡_}
 use Prim.Native.Nat.{_-_}
 use denote.Ref.{now}

@@ -1,4 +1,4 @@
--- `case_rows::put` meets its contract: past the end `set` changes nothing. Assumes nothing.
+-- Past the end `set` changes nothing.
 use mathlib.Core.Path.{sym}
 use lib.Seq.{set-out}
 use denote.Ref.{now}

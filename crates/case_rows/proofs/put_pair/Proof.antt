@@ -1,4 +1,4 @@
--- `case_rows::put_pair` meets its contract: the test of the space is the code's. Assumes nothing.
+-- The test of the space is the code's.
 use borrow.Author.Tests.{eq-eqb, ne-eqb}
 use Rattle.case_rows.specs.Rows.{withPair}
 use borrow.Author.Needs.{needs}

@@ -1,4 +1,4 @@
--- `case_rows::put_pairs` meets its contract: the invariant says that the pairs left give the whole. Assumes nothing.
+-- The invariant says that the pairs left give the whole.
 use mathlib.Core.Path.{_≡_, refl}
 use Prim.Native.Nat.{_-_}
 use denote.Ref.{now}

@@ -1,4 +1,4 @@
--- `case_rows::towards_end` meets its contract: the test of the byte is the code's. Assumes nothing.
+-- The test of the byte is the code's.
 use borrow.Author.Tests.{eq-eqb, ne-eqb}
 use Rattle.case_rows.specs.Rows.{towardsEnd}
 use borrow.Author.Needs.{needs}

@@ -1,4 +1,4 @@
--- `case_rows::with_digit` meets its contract: the two tests of the byte are the code's. Assumes nothing.
+-- The two tests of the byte are the code's.
 use borrow.Author.Tests.{lt-ltb, le-ltb}
 use Rattle.case_rows.specs.Rows.{withDigit}
 use borrow.Author.Needs.{needs}

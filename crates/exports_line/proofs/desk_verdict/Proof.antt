@@ -1,4 +1,4 @@
--- `exports_line::desk_verdict` meets its contract: the code and the verdict are packed in one number. Assumes nothing.
+-- The code and the verdict are packed in one number.
 use borrow.Author.Needs.{needs}
 use Rattle.exports_line.proofs.desk_verdict.Statement.{statement}
 use Rattle.exports_line.proofs.desk_verdict.Tie as tie

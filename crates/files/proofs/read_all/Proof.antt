@@ -1,4 +1,4 @@
--- `files::read_all` is safe, ends and counts bytes of its buffer: the room left in it falls. Assumes nothing.
+-- `files::read_all` is safe, ends and counts bytes of its buffer: the room left in it falls.
 use mathlib.Core.Path.{_≡_}
 use Prim.Native.Nat.{_-_, _≤_}
 use lib.ListN.{length}

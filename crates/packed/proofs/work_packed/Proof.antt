@@ -1,4 +1,4 @@
--- `packed::work_packed` meets its contract: the code, and 256 more where the answer is yes. Assumes nothing.
+-- The code, and 256 more where the answer is yes.
 use borrow.Author.Needs.{needs}
 use Rattle.packed.proofs.work_packed.Statement.{statement}
 use Rattle.packed.proofs.work_packed.Tie as tie

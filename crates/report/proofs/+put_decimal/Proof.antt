@@ -1,5 +1,4 @@
--- `report::put_decimal` meets its contract: a number below ten is one digit; else its tenth is put first. The measure is the number.
--- Assumes nothing.
+-- A number below ten is one digit; else its tenth is put first. The measure is the number.
 use Prim.Native.Nat.{ℕ, _<_}
 use native.Mathlib.Omega.{arith}
 use Rattle.report.specs.Text.{putAll}

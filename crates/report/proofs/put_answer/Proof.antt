@@ -1,4 +1,4 @@
--- `report::put_answer` meets its contract: the code's byte, then the four of the minutes. Assumes nothing.
+-- The code's byte, then the four of the minutes.
 use Prim.Native.Nat.{_*_}
 use native.Mathlib.Numerals.{add-one}
 use Rattle.report.specs.Answers.{withAnswer}

@@ -1,4 +1,4 @@
--- `report::put_byte` meets its contract: the test of the place is the code's. Assumes nothing.
+-- The test of the place is the code's.
 use denote.Ref.{now}
 use lib.ListN.{length}
 use borrow.Author.Tests.{lt-ltb, le-ltb}

@@ -1,4 +1,4 @@
--- `report::put_line` meets its contract: three times a number and the byte after it. Assumes nothing.
+-- Three times a number and the byte after it.
 use mathlib.Core.Path.{sym, _∙_}
 use Rattle.report.specs.Text.{lineOf}
 use Rattle.report.proofs.Filling.{byte-after, byte-last}

@@ -1,4 +1,4 @@
--- `report::text` meets its contract: the invariant says that the lines still to be put give the whole text. Assumes nothing.
+-- The invariant says that the lines still to be put give the whole text.
 use mathlib.Core.Path.{_≡_, sym, ap, _∙_}
 use Prim.Native.Nat.{ℕ, _-_, _≤_}
 use native.Mathlib.Nat.{sub-zero}

@@ -1,4 +1,4 @@
--- `sets::contains` meets its contract: below 64 the code's test is the rule's, and from 64 on no number is in a word.
+-- Below 64 the code's test is the rule's, and from 64 on no number is in a word.
 use mathlib.Core.Path.{refl, sym}
 use native.Mathlib.Omega.{arith}
 use borrow.Author.Needs.{needs}

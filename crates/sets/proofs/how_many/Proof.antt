@@ -1,4 +1,4 @@
--- `sets::how_many` meets its contract: the instruction counts the word's ones, and those are its members.
+-- The instruction counts the word's ones, and those are its members.
 use mathlib.Core.Path.{sym}
 use native.Mathlib.Omega.{arith}
 use Rattle.sets.proofs.Counting.{count-ones}

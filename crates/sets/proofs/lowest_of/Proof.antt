@@ -1,4 +1,4 @@
--- `sets::lowest_of` meets its contract: the zeros below the word's lowest one are as many as the lowest member's number.
+-- The zeros below the word's lowest one are as many as the lowest member's number.
 use mathlib.Core.Path.{sym}
 use Rattle.sets.proofs.Counting.{lowest-zeros}
 use Rattle.sets.proofs.lowest_of.Statement.{statement}

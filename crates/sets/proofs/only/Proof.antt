@@ -1,4 +1,4 @@
--- `sets::only` meets its contract: below 64 the shift loses nothing, and from 64 on the rule gives 0.
+-- Below 64 the shift loses nothing, and from 64 on the rule gives 0.
 use mathlib.Core.Path.{sym, _∙_}
 use Prim.Native.Nat.{_^_}
 use native.Mathlib.Omega.{arith}

@@ -21,7 +21,6 @@ use station::Station;
 use station::Turnout;
 use station::first_code;
 use station::observe::at_most_64;
-use station::observe::no_routes;
 use station::observe::no_turnouts;
 
 // The numbers that refuse a sheet by its header or its length.
@@ -131,7 +130,8 @@ fn routes_in(s: &[u8], p: u8, r: u8) -> [Route; 64]
 {
     let first = HEADER + 3 * (p as usize);
     let n = at_most_64(r);
-    let mut rs = no_routes();
+    let none = station::route_none();
+    let mut rs = [none; station::ROUTES];
     let mut i: usize = 0;
     while i < n {
         rs[i] = route_in(s, first + 33 * i);

@@ -44,12 +44,12 @@ pub const RECORD: usize = 32;
 
 // A message: kind, zone, time in seconds, form number or train, two turnout sets, six details.
 pub struct Message {
-    pub kind: u8,
-    pub zone: u8,
-    pub time: u32,
-    pub id: u32,
     pub a: u64,
     pub b: u64,
+    pub time: u32,
+    pub id: u32,
+    pub kind: u8,
+    pub zone: u8,
     pub d0: u8,
     pub d1: u8,
     pub d2: u8,

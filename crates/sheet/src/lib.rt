@@ -14,9 +14,9 @@ pub const BAD_ROUTE: u8 = 6;
 // What reading a sheet gives: 0 and the station; or the number that refuses it, the index of the record for 5 and 6 (else
 // 0), and the station that is 0 throughout.
 pub struct Sheet {
+    pub station: station::Station,
     pub code: u8,
     pub index: u8,
-    pub station: station::Station,
 }
 
 // What judging a station finds: 0, or the number and the index of its first bad record. Smaller than a Sheet, which holds the station.

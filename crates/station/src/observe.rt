@@ -46,13 +46,8 @@ pub fn no_route() -> Route
 pub fn no_routes() -> [Route; 64]
     ensures { λ r. ⌜ r ≡ replicate 64 emptyRoute ⌝ }
 {
-    [Route {
-        zone: 0,
-        over: 0,
-        flank: 0,
-        exits: 0,
-        reverse: 0,
-    }; 64]
+    let r = no_route();
+    [r; 64]
 }
 
 // The record of a turnout, as stored; every number 0 from 64 on.

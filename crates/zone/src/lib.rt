@@ -10,18 +10,18 @@ pub mod works;
 
 // What was asked for: the form number, how it was recorded (1 form M.45, 2 recorded verbal), the turnouts.
 pub struct Request {
+    pub set: u64,
     pub form: u32,
     pub manner: u8,
-    pub set: u64,
 }
 
 // An agreed request: also when it was agreed to, and the turnouts that are open to work.
 pub struct Agreement {
-    pub form: u32,
-    pub manner: u8,
     pub set: u64,
-    pub since: u32,
     pub opened: u64,
+    pub form: u32,
+    pub since: u32,
+    pub manner: u8,
 }
 
 // The work of a zone.
@@ -34,11 +34,11 @@ pub enum Work {
 // A movement that stands: its train, its route, the order given (0 none, 1 clear, 2 danger), the turnouts cleared for it and
 // those of them whose declaration means all efficient.
 pub struct Passage {
+    pub cleared: u64,
+    pub efficient: u64,
     pub train: u32,
     pub route: u8,
     pub order: u8,
-    pub cleared: u64,
-    pub efficient: u64,
 }
 
 // The movement of a zone.
@@ -58,15 +58,15 @@ pub enum Regime {
 pub struct Zone {
     pub work: Work,
     pub movement: Movement,
-    pub recorder: bool,
     pub time: u32,
+    pub recorder: bool,
 }
 
 // The answer to a message: its code, the minutes, and the zone after it.
 pub struct Answer {
-    pub code: u8,
-    pub minutes: u32,
     pub zone: Zone,
+    pub minutes: u32,
+    pub code: u8,
 }
 
 impl Zone {

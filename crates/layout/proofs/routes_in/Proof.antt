@@ -4,7 +4,7 @@ use mathlib.Core.List.{List}
 use Prim.Native.Nat.{ℕ, _-_, _≤_, _<_, min}
 use native.Mathlib.Omega.{arith}
 use denote.Ref.{now}
-use lib.ListN.{set}
+use lib.ListN.{set, replicate}
 use Rattle.station.specs.declared.Route.{Route}
 use Rattle.sets.proofs.Tables.{places-none, places-next, places-limit}
 use Rattle.layout.specs.Layout.{routeIn, routePlace}
@@ -26,22 +26,28 @@ abbrev μ-loop : tie.MeasureT-loop
 
 loop-holds : tie.Need-loop-holds Inv-loop μ-loop
 loop-holds c =
-    (search needs, c .no-routes .ensures ∙ sym (places-none (sheetRoute (now (c .before .before .before .args .s)) (c .before .before .before .args .p)) emptyRoute))
+    let a = c .before .before .before .args in
+    let none : replicate 64 (c .route-none .result) ≡ replicate 64 emptyRoute =
+    ap (λ (r : Route). replicate 64 r) (c .route-none .ensures) in
+    (search needs, none ∙ sym (places-none (sheetRoute (now (a .s)) (a .p)) emptyRoute))
 
 loop-again : tie.Need-loop-again Inv-loop μ-loop
 loop-again c =
-    let f = sheetRoute (now (c .before .before .before .before .before .before .args .s)) (c .before .before .before .before .before .before .args .p) in
+    let a = c .before .before .before .before .before .before .args in
     let i = c .before .before .loop .i in
     let inv = c .before .before .loop .inv in
     let inside : i < 64 = omega arith in
-    (search needs, ap₂ (λ (l : List Route) (r : Route). set l i r) (inv .1) (c .route-in .ensures) ∙ places-next f i emptyRoute inside)
+    let next = places-next (sheetRoute (now (a .s)) (a .p)) i emptyRoute inside in
+    let stored = ap₂ (λ (l : List Route) (r : Route). set l i r) (inv .1) (c .route-in .ensures) in
+    (search needs, stored ∙ next)
 
 returns : tie.Need-returns Inv-loop μ-loop
 returns c =
-    let f = sheetRoute (now (c .before .before .before .before .before .args .s)) (c .before .before .before .before .before .args .p) in
+    let a = c .before .before .before .before .before .args in
+    let f = sheetRoute (now (a .s)) (a .p) in
     let inv = c .before .loop .inv in
-    let all : c .before .loop .i ≡ min (c .before .before .before .before .before .args .r) 64 = omega arith in
-    inv .1 ∙ ap (λ (m : ℕ). places f m emptyRoute) all ∙ places-limit f (c .before .before .before .before .before .args .r) emptyRoute
+    let all : c .before .loop .i ≡ min (a .r) 64 = omega arith in
+    inv .1 ∙ ap (λ (m : ℕ). places f m emptyRoute) all ∙ places-limit f (a .r) emptyRoute
 
 pub routes-in-spec : {M : Type 1} → statement M
 routes-in-spec =

@@ -7,6 +7,7 @@ use lib.Seq.{set-getD}
 use Rattle.station.specs.declared.Station.{Station}
 use Rattle.message.specs.declared.Message.{Message}
 use Rattle.zone.specs.Zone.{noZone}
+use Rattle.rules.specs.Kinds.{heard}
 use Rattle.desk.specs.declared.Desk.{Desk}
 use Rattle.desk.specs.Desk.{zoneAt, putBack, noSuchZone, reached, zonePlace, zoneHears}
 
@@ -17,7 +18,7 @@ zone-kept d n = set-getD (d .zones) n noZone
 pub reached-in-place :
     (st : Station) (d : Desk) (m : Message)
     → reached st d m ≡ putBack d (zonePlace st m) (zoneHears st (zoneAt d (zonePlace st m)) m)
-unfolding reached zonePlace zoneHears
+unfolding reached zonePlace zoneHears heard
 reached-in-place st d m = go (noSuchZone st m) refl
   where
     go :

@@ -13,7 +13,9 @@ use Rattle.message.specs.Record.{readRecord}
 use Rattle.zone.specs.declared.Zone.{Zone}
 use Rattle.zone.specs.declared.Answer.{Answer}
 use Rattle.zone.specs.Zone.{freshZone, noZone, refusedIn}
-use Rattle.rules.specs.Kinds.{heard}
+use Rattle.rules.specs.declared.Concerned.{Concerned}
+use Rattle.rules.specs.Routes.{concerned}
+use Rattle.rules.specs.Kinds.{heard, heardOn}
 use Rattle.desk.specs.declared.Desk.{Desk}
 use Rattle.desk.specs.declared.Applied.{Applied}
 
@@ -50,10 +52,14 @@ unfoldable pub appliedRecord : Station → Desk → List ℕ → Applied
 appliedRecord st d s =
     cond (eqb (readRecord s .code) 0) (reached st d (readRecord s .message)) (refusedBy d (readRecord s .code))
 
--- The same in one zone, for whoever keeps the zones himself, of a message that keeps the field rules: the place of a message's zone in the desk, 0 where the station has none
--- such, and the answer of the zone in that place. The law `reached-in-place` says that putting it back is hearing by the desk.
+-- The same in one zone, for whoever keeps the zones himself, of a message that keeps the field rules: the place of a message's zone in the
+-- desk, 0 where the station has none such, and the answer of the zone in that place, the routes that bear on the message being given or the
+-- station's. The law `reached-in-place` says that putting the zone back is hearing by the desk.
 unfoldable pub zonePlace : Station → Message → ℕ
 zonePlace st m = cond (noSuchZone st m) 0 (m .zone)
 
+abbrev pub zoneHearsOn : Station → Concerned → Zone → Message → Answer
+zoneHearsOn st routes z m = cond (noSuchZone st m) (refusedIn z 12) (heardOn st routes z m)
+
 unfoldable pub zoneHears : Station → Zone → Message → Answer
-zoneHears st z m = cond (noSuchZone st m) (refusedIn z 12) (heard st z m)
+zoneHears st z m = zoneHearsOn st (concerned st z m) z m

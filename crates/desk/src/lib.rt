@@ -2,10 +2,12 @@
 // Questions.antt; the kinds are in the crate `rules`. Every function takes any station and any desk value.
 ghost use mathlib.Core.Path.{_≡_};
 ghost use Prim.Native.Nat.{_<_};
-ghost use Rattle.desk.specs.Desk.{freshDesk, refusedBy, reached, applied, appliedRecord, zonePlace, zoneHears};
+ghost use Rattle.desk.specs.Desk.{freshDesk, refusedBy, reached, applied, appliedRecord, zonePlace, zoneHearsOn, zoneHears};
 ghost use Rattle.desk.specs.Questions.{movementRefused, lowestOf, movementIn, movementAnswered, workAnswered};
 use message::Message;
 use message::Reading;
+use rules::Concerned;
+use rules::routes::routes_concerned;
 use station::Station;
 use zone::Answer;
 use zone::Regime;
@@ -44,9 +46,9 @@ pub struct WorkAnswer {
 }
 
 impl Desk {
-    pub const ZONES: usize = 8;
+    pub const ZONES: usize = station::ZONES;
 
-    pub const TURNOUTS: usize = 64;
+    pub const TURNOUTS: usize = station::TURNOUTS;
 
     // A desk with no work and no movement in any zone, recorders working, times 0.
     pub fn fresh() -> Desk
@@ -81,16 +83,23 @@ pub fn zone_place(st: Station, m: Message) -> usize
     n
 }
 
-// A message that keeps the field rules, heard by the zone in its place: 12 for a zone that the station has not, else as the
-// zone hears it.
-pub fn zone_hears(st: Station, z: Zone, m: Message) -> Answer
-    ensures { λ r. ⌜ r ≡ zoneHears st z m ⌝ }
+// A message that keeps the field rules, heard by the zone in its place, the routes that bear on it being given: 12 for a zone that the
+// station has not, else as the zone hears it.
+pub fn zone_hears_on(st: Station, routes: Concerned, z: Zone, m: Message) -> Answer
+    ensures { λ r. ⌜ r ≡ zoneHearsOn st routes z m ⌝ }
 {
     let n = m.zone as usize;
     if station::zone_count(st) <= n {
         return zone::refused_in(z, NO_SUCH_ZONE);
     }
-    kinds::hear(st, z, m)
+    kinds::hear(st, routes, z, m)
+}
+
+// The same, the routes being the station's.
+pub fn zone_hears(st: Station, z: Zone, m: Message) -> Answer
+    ensures { λ r. ⌜ r ≡ zoneHears st z m ⌝ }
+{
+    zone_hears_on(st, routes_concerned(st, z, m), z, m)
 }
 
 // A message that keeps the field rules, heard by the desk.
@@ -163,10 +172,11 @@ fn movement_in(st: Station, z: Zone, train: u32) -> MovementAnswer
     if !zone::movements::is_standing(v) {
         return movement_refused(kinds::NOT_UNDER_THIS_ID);
     }
-    let lacking = zone::movements::lacking_clearance(st, w, v);
+    let r = zone::movements::route_for(st, v);
+    let lacking = zone::movements::lacking_clearance(r, w, v);
     MovementAnswer {
         code: 0,
-        regime: zone::movements::regime(st, w, v),
+        regime: zone::movements::regime(r, w, v),
         lowest: lowest_of(lacking),
         count: sets::how_many(lacking),
     }

@@ -20,7 +20,9 @@ use Rattle.zone.specs.Movement.{isStanding, underTrain}
 use Rattle.zone.specs.Trains.{movementUnder, noPlace, namedStanding, clearedStanding, placed, changed}
 use Rattle.zone.specs.Zone.{refusedIn}
 use Rattle.zone.proofs.EachTrain.{found-under, found}
-use Rattle.rules.specs.Kinds.{first, row, rows, noKind, row1, row2, row3, row4, row5, row6, row7, row8, row9, row10, answered, heard, zoneAfter, workAfter, moved}
+use Rattle.rules.specs.declared.Concerned.{Concerned}
+use Rattle.rules.specs.Routes.{concerned}
+use Rattle.rules.specs.Kinds.{first, row, rows, noKind, row1, row2, row3, row4, row5, row6, row7, row8, row9, row10, checksOf, answered, heardOn, heard, zoneAfter, workAfter, moved}
 use Rattle.desk.specs.declared.Desk.{Desk}
 use Rattle.desk.specs.Desk.{zoneAt, refusedBy, noSuchZone, reached, applied, appliedRecord}
 use Rattle.desk.proofs.InPlace.{zone-kept}
@@ -36,15 +38,18 @@ module _ (st : Station) (n : ℕ) (H : List Message) (m : Message) (z : Zone) wh
   -- after a message of kind k that passed its checks
   abbrev StepOf : ℕ → Type 0
   StepOf k =
-      m .kind ≡ k → first (row k st z m) ≡ 0
+      m .kind ≡ k → first (checksOf k st z m) ≡ 0
       → Agrees st n (H then m) (workAfter k (z .work) m) (moved k z m .movement)
 
   pub step :
-      fieldNumber m ≡ 0 → m .zone ≡ n → first (row (m .kind) st z m) ≡ 0 → Agrees st n H (z .work) (z .movement)
+      fieldNumber m ≡ 0 → m .zone ≡ n → first (checksOf (m .kind) st z m) ≡ 0 → Agrees st n H (z .work) (z .movement)
       → Agrees st n (H then m) (zoneAfter (m .kind) z m .work) (zoneAfter (m .kind) z m .movement)
   unfolding zoneAfter row workAfter moved noPlace namedStanding clearedStanding placed changed
   step rules zone checks a = by-kind (m .kind) refl checks
     where
+      routes : Concerned
+      routes = concerned st z m
+
       -- kinds 6 to 9: the movement is the message's train's
       its : not (isStanding (movementUnder z (m .id))) ≡ false → underTrain (z .movement) (m .id) ≡ true
       its c = found-under z (m .id) (not-false (isStanding (movementUnder z (m .id))) c)
@@ -53,26 +58,26 @@ module _ (st : Station) (n : ℕ) (H : List Message) (m : Message) (z : Zone) wh
       by-kind =
           each-kind StepOf
           ((λ e none. absurd (omega arith))
-          also (λ e none. let c = passed (row1 st z m) refl none in step1 st n H m (z .work) (z .movement) e zone (c .0) (c .1 .0) a)
-          also (λ e none. let c = passed (row2 st z m) refl none in step2 st n H m (z .work) (z .movement) e (c .0) (c .1 .0) a)
-          also (λ e none. let c = passed (row3 st z m) refl none in step3 st n H m (z .work) (z .movement) e (c .1 .0) a)
+          also (λ e none. let c = passed (row1 st routes z m) refl none in step1 st n H m (z .work) (z .movement) e zone (c .0) (c .1 .0) a)
+          also (λ e none. let c = passed (row2 st routes z m) refl none in step2 st n H m (z .work) (z .movement) e (c .0) (c .1 .0) a)
+          also (λ e none. let c = passed (row3 st routes z m) refl none in step3 st n H m (z .work) (z .movement) e (c .1 .0) a)
           also (λ e none.
-          let c = passed (row4 st z m) refl none in
+          let c = passed (row4 st routes z m) refl none in
           step4 st n H m (z .work) (z .movement) e (c .1 .0) (c .1 .1 .0) (c .1 .1 .1 .0) a)
-          also (λ e none. let c = passed (row5 st z m) refl none in rw (c .0) (step5 st n H m (z .work) (z .movement) e a))
+          also (λ e none. let c = passed (row5 st routes z m) refl none in rw (c .0) (step5 st n H m (z .work) (z .movement) e a))
           also (λ e none.
-          let c = passed (row6 st z m) refl none in
+          let c = passed (row6 st routes z m) refl none in
           let same = found z (m .id) (its (c .0)) in
           let worked = rw same at (c .1 .1 .0) in
           let fits = rw same at (c .1 .1 .1 .0) in
           rw (same, its (c .0))
           (step6 st n H m (z .work) (z .movement) e (clearance-turnout m e rules) (its (c .0)) worked fits a))
           also (λ e none.
-          let c = passed (row7 st z m) refl none in
+          let c = passed (row7 st routes z m) refl none in
           rw (found z (m .id) (its (c .0)), its (c .0)) (step7 st n H m (z .work) (z .movement) e a))
-          also (λ e none. let c = passed (row8 st z m) refl none in rw (its (c .0)) (step8 st n H m (z .work) (z .movement) e a))
-          also (λ e none. let c = passed (row9 st z m) refl none in rw (its (c .0)) (step9 st n H m (z .work) (z .movement) e a))
-          also (λ e none. let c = passed (row10 st z m) refl none in step10 st n H m (z .work) (z .movement) e (c .1 .1 .0) a)
+          also (λ e none. let c = passed (row8 st routes z m) refl none in rw (its (c .0)) (step8 st n H m (z .work) (z .movement) e a))
+          also (λ e none. let c = passed (row9 st routes z m) refl none in rw (its (c .0)) (step9 st n H m (z .work) (z .movement) e a))
+          also (λ e none. let c = passed (row10 st routes z m) refl none in step10 st n H m (z .work) (z .movement) e (c .1 .1 .0) a)
           also (λ e none. step11 st n H m (z .work) (z .movement) e a)
           also (λ e none. step12 st n H m (z .work) (z .movement) e a)
           also tt)
@@ -81,27 +86,27 @@ module _ (st : Station) (n : ℕ) (H : List Message) (m : Message) (z : Zone) wh
           absurd (omega arith))
 
 -- a message that its zone accepted
-pub heard-accepted : (st : Station) (z : Zone) (m : Message) → heard st z m .code ≡ 0 → (first (row (m .kind) st z m) ≡ 0) × (heard st z m .zone ≡ zoneAfter (m .kind) z m)
-unfolding heard answered
+pub heard-accepted : (st : Station) (z : Zone) (m : Message) → heard st z m .code ≡ 0 → (first (checksOf (m .kind) st z m) ≡ 0) × (heard st z m .zone ≡ zoneAfter (m .kind) z m)
+unfolding heard heardOn answered
 heard-accepted st z m zero = go (ltb (m .time) (z .time)) refl (eqb number 0) refl
   where
     number : ℕ
-    number = first (row (m .kind) st z m)
+    number = first (checksOf (m .kind) st z m)
 
-    go : (early : Bool) → ltb (m .time) (z .time) ≡ early → (none : Bool) → eqb (first (row (m .kind) st z m)) 0 ≡ none
-        → (first (row (m .kind) st z m) ≡ 0) × (heard st z m .zone ≡ zoneAfter (m .kind) z m)
+    go : (early : Bool) → ltb (m .time) (z .time) ≡ early → (none : Bool) → eqb (first (checksOf (m .kind) st z m)) 0 ≡ none
+        → (first (checksOf (m .kind) st z m) ≡ 0) × (heard st z m .zone ≡ zoneAfter (m .kind) z m)
     go true p none q = let fourteen : _≡_ {A = ℕ} 14 0 = rw p at zero in absurd (omega arith)
-    go false p true q = (eqb-true (first (row (m .kind) st z m)) 0 q, rw (p, q))
-    go false p false q = absurd (eqb-false (first (row (m .kind) st z m)) 0 q (rw (p, q) at zero))
+    go false p true q = (eqb-true (first (checksOf (m .kind) st z m)) 0 q, rw (p, q))
+    go false p false q = absurd (eqb-false (first (checksOf (m .kind) st z m)) 0 q (rw (p, q) at zero))
 
 -- a message that its zone refused: nothing is altered, and there are no minutes
 pub heard-refused :
     (st : Station) (z : Zone) (m : Message) → eqb (heard st z m .code) 0 ≡ false → heard st z m ≡ refusedIn z (heard st z m .code)
-unfolding heard answered
-heard-refused st z m other = go (ltb (m .time) (z .time)) refl (eqb (first (row (m .kind) st z m)) 0) refl
+unfolding heard heardOn answered
+heard-refused st z m other = go (ltb (m .time) (z .time)) refl (eqb (first (checksOf (m .kind) st z m)) 0) refl
   where
     go :
-        (early : Bool) → ltb (m .time) (z .time) ≡ early → (none : Bool) → eqb (first (row (m .kind) st z m)) 0 ≡ none
+        (early : Bool) → ltb (m .time) (z .time) ≡ early → (none : Bool) → eqb (first (checksOf (m .kind) st z m)) 0 ≡ none
         → heard st z m ≡ refusedIn z (heard st z m .code)
     go true p none q = rw p
     go false p true q = absurd (true≢false (rw (p, q) at other))
@@ -111,7 +116,7 @@ heard-refused st z m other = go (ltb (m .time) (z .time)) refl (eqb (first (row 
 pub record Taken (st : Station) (d : Desk) (m : Message) (d′ : Desk) : Type 0 where
   pub rules : fieldNumber m ≡ 0
   pub zone : m .zone < zoneCount st
-  pub checks : first (row (m .kind) st (zoneAt d (m .zone)) m) ≡ 0
+  pub checks : first (checksOf (m .kind) st (zoneAt d (m .zone)) m) ≡ 0
   pub desk : d′ ≡ record { zones = set (d .zones) (m .zone) (zoneAfter (m .kind) (zoneAt d (m .zone)) m) }
 
 -- a message that keeps the field rules

@@ -20,7 +20,7 @@ use Rattle.zone.specs.declared.Movement.the-variants.{NoMovement, Standing}
 use Rattle.zone.specs.declared.Passage.{Passage}
 use Rattle.zone.specs.declared.Regime.the-variants.{Held, Clear, Danger}
 use Rattle.zone.specs.Work.{agreedSet}
-use Rattle.zone.specs.Movement.{clearedSet, efficientSet, workedTurnouts, lacking, regimeOf, isClear, underTrain}
+use Rattle.zone.specs.Movement.{clearedSet, efficientSet, routeFor, workedTurnouts, lacking, regimeOn, regimeOf, isClear, underTrain}
 use Rattle.history.specs.Since.{never, since, any}
 use Rattle.history.specs.History.{clears, clearsWell, underAgreedWork, standing, cleared, ofItsRoute, EachWorkedCleared, lacks}
 use Rattle.history.proofs.Agrees.{WorkAgrees, Stands, MovementAgrees, under-is}
@@ -50,9 +50,9 @@ well-clears st f t m e =
     (and-eq-true-iff (clears t m && train) position .0 (and-eq-true-iff (clears t m && train && position) efficient .0 e .0) .0) .0
 
 -- the regime is clear where no turnout lacks a clearance and all that are worked on are efficient
-clear-means : (st : Station) (w : Work) (v : Movement) → regimeOf st w v ≡ Clear → within (workedTurnouts st w v) (efficientSet v) ≡ true
-unfolding regimeOf
-clear-means st w v e = go (not (isEmpty (lacking st w v))) (within (workedTurnouts st w v) (efficientSet v)) (ap isClear e)
+clear-means : (st : Station) (w : Work) (v : Movement) → regimeOf st w v ≡ Clear → within (workedTurnouts (routeFor st v) w) (efficientSet v) ≡ true
+unfolding regimeOn
+clear-means st w v e = go (not (isEmpty (lacking st w v))) (within (workedTurnouts (routeFor st v) w) (efficientSet v)) (ap isClear e)
   where
     go : (held good : Bool) → isClear (cond held Held (cond good Clear Danger)) ≡ true → good ≡ true
     go true good h = absurd (true≢false (sym h))
@@ -62,7 +62,7 @@ clear-means st w v e = go (not (isEmpty (lacking st w v))) (within (workedTurnou
 -- a standing movement, by the messages L of its train; the work, by all messages H of the zone
 module _ (st : Station) (H L : List Message) (w : Work) (p : Passage) (work : WorkAgrees H w) (a : Stands st L p) where
   -- a worked turnout, by the state and by the history
-  worked-is : (t : ℕ) → has (workedTurnouts st w (Standing p)) t ≡ (ofItsRoute st (a .asked) t && underAgreedWork t H)
+  worked-is : (t : ℕ) → has (workedTurnouts (routeFor st (Standing p)) w) t ≡ (ofItsRoute st (a .asked) t && underAgreedWork t H)
   worked-is t =
       has-and (namedBy (theRoute st (p .route))) (agreedSet w) t
       ∙ rw (a .route, under-is H w work t)
@@ -70,33 +70,33 @@ module _ (st : Station) (H L : List Message) (w : Work) (p : Passage) (work : Wo
   -- a turnout that lacks a clearance
   lacking-is : (t : ℕ) → lacks st H (a .asked) (a .rest) t ≡ has (lacking st w (Standing p)) t
   lacking-is t =
-      sym (has-without (workedTurnouts st w (Standing p)) (p .cleared) t ∙ rw (worked-is t, a .cleared t))
+      sym (has-without (workedTurnouts (routeFor st (Standing p)) w) (p .cleared) t ∙ rw (worked-is t, a .cleared t))
 
   clear-then : regimeOf st w (Standing p) ≡ Clear → EachWorkedCleared st H (a .asked) (a .rest)
   clear-then clear t named under =
       let good = clear-means st w (Standing p) clear in
-      a .efficient t ∙ within-member (workedTurnouts st w (Standing p)) (p .efficient) t good (worked-is t ∙ rw (named, under))
+      a .efficient t ∙ within-member (workedTurnouts (routeFor st (Standing p)) w) (p .efficient) t good (worked-is t ∙ rw (named, under))
 
   then-clear : EachWorkedCleared st H (a .asked) (a .rest) → regimeOf st w (Standing p) ≡ Clear
-  unfolding regimeOf
-  then-clear each = rw (empty-all (lacking st w (Standing p)) none, within-all (workedTurnouts st w (Standing p)) (p .efficient) good)
+  unfolding regimeOn
+  then-clear each = rw (empty-all (lacking st w (Standing p)) none, within-all (workedTurnouts (routeFor st (Standing p)) w) (p .efficient) good)
     where
-      cleared-well : (t : ℕ) → has (workedTurnouts st w (Standing p)) t ≡ true → any (clearsWell st (a .asked) t) (a .rest) ≡ true
+      cleared-well : (t : ℕ) → has (workedTurnouts (routeFor st (Standing p)) w) t ≡ true → any (clearsWell st (a .asked) t) (a .rest) ≡ true
       cleared-well t h =
           let both = and-eq-true-iff (ofItsRoute st (a .asked) t) (underAgreedWork t H) .0 (sym (worked-is t) ∙ h) in
           each t (both .0) (both .1)
 
-      good : (t : ℕ) → has (workedTurnouts st w (Standing p)) t ≡ true → has (p .efficient) t ≡ true
+      good : (t : ℕ) → has (workedTurnouts (routeFor st (Standing p)) w) t ≡ true → has (p .efficient) t ≡ true
       good t h = sym (a .efficient t) ∙ cleared-well t h
 
-      go : (t : ℕ) (b : Bool) → has (workedTurnouts st w (Standing p)) t ≡ b → (b && not (has (p .cleared) t)) ≡ false
+      go : (t : ℕ) (b : Bool) → has (workedTurnouts (routeFor st (Standing p)) w) t ≡ b → (b && not (has (p .cleared) t)) ≡ false
       go t true h =
           let clear = any-weaker (clearsWell st (a .asked) t) (clears t) (well-clears st (a .asked) t) (a .rest) (cleared-well t h) in
           rw (sym (a .cleared t) ∙ clear)
       go t false h = refl
 
       none : (t : ℕ) → has (lacking st w (Standing p)) t ≡ false
-      none t = has-without (workedTurnouts st w (Standing p)) (p .cleared) t ∙ rw (go t (has (workedTurnouts st w (Standing p)) t) refl)
+      none t = has-without (workedTurnouts (routeFor st (Standing p)) w) (p .cleared) t ∙ rw (go t (has (workedTurnouts (routeFor st (Standing p)) w) t) refl)
 
 -- the movement asked by f, which stands by the messages L of its train: what the desk says of it
 pub record Told (st : Station) (H : List Message) (w : Work) (v : Movement) (f : Message) (rest : List Message) : Type 0 where

@@ -119,7 +119,7 @@ module _ (st : Station) (n : ℕ) (H : List Message) (m : Message) where
       at-movement w NoMovement (not-work m 9 e refl) (left-agrees st H m (is-kind m 9 5 e) (rw (is-kind m 9 8 e, is-kind m 9 9 e))) (λ t h. absurd (no-member t h))
 
   pub step6 : (w : Work) (v : Movement) → m .kind ≡ 6 → m .d0 < 64 → underTrain v (m .id) ≡ true
-      → not (has (workedTurnouts st w v) (m .d0)) ≡ false → not (clearanceFits st (routeFor st v) m) ≡ false
+      → not (has (workedTurnouts (routeFor st v) w) (m .d0)) ≡ false → not (clearanceFits st (routeFor st v) m) ≡ false
       → Agrees st n H w v → Agrees st n (H then m) (shutTo w (single (m .d0))) (clearedAt v (m .d0) (isEfficient (m .d1)))
   step6 w v e below train worked fits a = record {
     works = works.step6 st n H m w e below (a .works);
@@ -140,6 +140,6 @@ module _ (st : Station) (n : ℕ) (H : List Message) (m : Message) where
       now-here t true q c =
           let same : m .d0 ≡ t = eqb-true (m .d0) t (sym (alone (m .d0) t below) ∙ q) in
           let both = and-eq-true-iff (has (namedTurnouts st v) (m .d0)) (has (agreedSet w) (m .d0)) .0
-          (sym (has-and (namedTurnouts st v) (agreedSet w) (m .d0)) ∙ not-false (has (workedTurnouts st w v) (m .d0)) worked) in
+          (sym (has-and (namedTurnouts st v) (agreedSet w) (m .d0)) ∙ not-false (has (workedTurnouts (routeFor st v) w) (m .d0)) worked) in
           a .works .here t (rw same at (agreed-in w (m .d0) (both .1)))
       now-here t false q c = a .cleared-here t (sym (or-false (has (clearedSet v) t)) ∙ rw q at c)

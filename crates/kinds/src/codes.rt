@@ -1,4 +1,5 @@
-// The number that each kind gives in a zone: its checks after 14, in the written order; 0 where none refuses.
+// The number that each kind gives in a zone, the routes that bear on the message being given: its checks after 14, in the written order;
+// 0 where none refuses.
 ghost use mathlib.Core.Path.{_≡_};
 ghost use Rattle.rules.specs.Kinds.{first, row};
 use super::ALREADY_THERE;
@@ -10,12 +11,12 @@ use super::NOT_UNDER_THIS_ID;
 use super::WRONG_MEDIUM;
 use super::WRONG_STAGE;
 use message::Message;
+use rules::Concerned;
 use rules::clearances::medium_fits;
 use station::Station;
 use station::first_code;
 use zone::Zone;
 use zone::movements::is_ordered;
-use zone::movements::route_for;
 use zone::trains::movement_under;
 use zone::trains::no_place;
 use zone::work_of;
@@ -24,16 +25,16 @@ use zone::works::is_agreed;
 use zone::works::manner_of;
 use zone::works::work_set;
 
-pub fn work_asked(st: Station, z: Zone, m: Message) -> u8
-    ensures { λ r. ⌜ r ≡ first (row 1 st z m) ⌝ }
+pub fn work_asked(st: Station, routes: Concerned, z: Zone, m: Message) -> u8
+    ensures { λ r. ⌜ r ≡ first (row 1 st routes z m) ⌝ }
 {
     let w = work_of(z);
     let set = first_code(rules::bad_request(st, m.zone, m.a), BAD_TURNOUTS, 0);
     first_code(has_work(w), ALREADY_THERE, set)
 }
 
-pub fn agreed(st: Station, z: Zone, m: Message) -> u8
-    ensures { λ r. ⌜ r ≡ first (row 2 st z m) ⌝ }
+pub fn agreed(st: Station, routes: Concerned, z: Zone, m: Message) -> u8
+    ensures { λ r. ⌜ r ≡ first (row 2 st routes z m) ⌝ }
 {
     let w = work_of(z);
     let way = first_code(rules::names_of(st, z, work_set(w)), MOVEMENT_IN_THE_WAY, 0);
@@ -41,16 +42,16 @@ pub fn agreed(st: Station, z: Zone, m: Message) -> u8
     first_code(rules::no_work_under(z, m), NOT_UNDER_THIS_ID, stage)
 }
 
-pub fn withdrawn(st: Station, z: Zone, m: Message) -> u8
-    ensures { λ r. ⌜ r ≡ first (row 3 st z m) ⌝ }
+pub fn withdrawn(st: Station, routes: Concerned, z: Zone, m: Message) -> u8
+    ensures { λ r. ⌜ r ≡ first (row 3 st routes z m) ⌝ }
 {
     let w = work_of(z);
     let stage = first_code(is_agreed(w), WRONG_STAGE, 0);
     first_code(rules::no_work_under(z, m), NOT_UNDER_THIS_ID, stage)
 }
 
-pub fn detection_off(st: Station, z: Zone, m: Message) -> u8
-    ensures { λ r. ⌜ r ≡ first (row 4 st z m) ⌝ }
+pub fn detection_off(st: Station, routes: Concerned, z: Zone, m: Message) -> u8
+    ensures { λ r. ⌜ r ≡ first (row 4 st routes z m) ⌝ }
 {
     let w = work_of(z);
     let device = first_code(rules::device_under_verbal(w, m.b), FORBIDDEN, 0);
@@ -68,19 +69,23 @@ pub fn detection_off(st: Station, z: Zone, m: Message) -> u8
     first_code(rules::no_work_under(z, m), NOT_UNDER_THIS_ID, set)
 }
 
-pub fn movement_asked(st: Station, z: Zone, m: Message) -> u8
-    ensures { λ r. ⌜ r ≡ first (row 5 st z m) ⌝ }
+pub fn movement_asked(st: Station, routes: Concerned, z: Zone, m: Message) -> u8
+    ensures { λ r. ⌜ r ≡ first (row 5 st routes z m) ⌝ }
 {
-    let route = first_code(rules::bad_route(st, m.zone, m.d0), BAD_TURNOUTS, 0);
+    let route = first_code(
+        rules::bad_route(st, routes.asked, m.zone, m.d0),
+        BAD_TURNOUTS,
+        0,
+    );
     first_code(no_place(z), ALREADY_THERE, route)
 }
 
-pub fn clearance(st: Station, z: Zone, m: Message) -> u8
-    ensures { λ r. ⌜ r ≡ first (row 6 st z m) ⌝ }
+pub fn clearance(st: Station, routes: Concerned, z: Zone, m: Message) -> u8
+    ensures { λ r. ⌜ r ≡ first (row 6 st routes z m) ⌝ }
 {
     let w = work_of(z);
     let v = movement_under(z, m.id);
-    let r = route_for(st, v);
+    let r = routes.its;
     let medium = first_code(!medium_fits(z.recorder, m.d4), WRONG_MEDIUM, 0);
     let fit = first_code(rules::misfit(st, r, m), CLEARANCE_DOES_NOT_FIT, medium);
     let turnout = first_code(rules::not_worked(r, w, m.d0), BAD_TURNOUTS, fit);
@@ -88,34 +93,34 @@ pub fn clearance(st: Station, z: Zone, m: Message) -> u8
     first_code(rules::no_movement_under(z, m), NOT_UNDER_THIS_ID, again)
 }
 
-pub fn ordered(st: Station, z: Zone, m: Message) -> u8
-    ensures { λ r. ⌜ r ≡ first (row 7 st z m) ⌝ }
+pub fn ordered(st: Station, routes: Concerned, z: Zone, m: Message) -> u8
+    ensures { λ r. ⌜ r ≡ first (row 7 st routes z m) ⌝ }
 {
     let w = work_of(z);
     let v = movement_under(z, m.id);
-    let order = first_code(rules::order_forbidden(st, w, v, m.d0), FORBIDDEN, 0);
+    let order = first_code(rules::order_forbidden(routes.its, w, v, m.d0), FORBIDDEN, 0);
     let stage = first_code(is_ordered(v), WRONG_STAGE, order);
     first_code(rules::no_movement_under(z, m), NOT_UNDER_THIS_ID, stage)
 }
 
-pub fn passed(st: Station, z: Zone, m: Message) -> u8
-    ensures { λ r. ⌜ r ≡ first (row 8 st z m) ⌝ }
+pub fn passed(st: Station, routes: Concerned, z: Zone, m: Message) -> u8
+    ensures { λ r. ⌜ r ≡ first (row 8 st routes z m) ⌝ }
 {
     let v = movement_under(z, m.id);
     let stage = first_code(!is_ordered(v), WRONG_STAGE, 0);
     first_code(rules::no_movement_under(z, m), NOT_UNDER_THIS_ID, stage)
 }
 
-pub fn cancelled(st: Station, z: Zone, m: Message) -> u8
-    ensures { λ r. ⌜ r ≡ first (row 9 st z m) ⌝ }
+pub fn cancelled(st: Station, routes: Concerned, z: Zone, m: Message) -> u8
+    ensures { λ r. ⌜ r ≡ first (row 9 st routes z m) ⌝ }
 {
     let v = movement_under(z, m.id);
     let stage = first_code(is_ordered(v), WRONG_STAGE, 0);
     first_code(rules::no_movement_under(z, m), NOT_UNDER_THIS_ID, stage)
 }
 
-pub fn part_restored(st: Station, z: Zone, m: Message) -> u8
-    ensures { λ r. ⌜ r ≡ first (row 10 st z m) ⌝ }
+pub fn part_restored(st: Station, routes: Concerned, z: Zone, m: Message) -> u8
+    ensures { λ r. ⌜ r ≡ first (row 10 st routes z m) ⌝ }
 {
     let w = work_of(z);
     let form = first_code(manner_of(w) == 1, FORBIDDEN, 0);
@@ -125,8 +130,8 @@ pub fn part_restored(st: Station, z: Zone, m: Message) -> u8
     first_code(rules::no_work_under(z, m), NOT_UNDER_THIS_ID, set)
 }
 
-pub fn all_restored(st: Station, z: Zone, m: Message) -> u8
-    ensures { λ r. ⌜ r ≡ first (row 11 st z m) ⌝ }
+pub fn all_restored(st: Station, routes: Concerned, z: Zone, m: Message) -> u8
+    ensures { λ r. ⌜ r ≡ first (row 11 st routes z m) ⌝ }
 {
     let w = work_of(z);
     let way = first_code(rules::names_of(st, z, work_set(w)), MOVEMENT_IN_THE_WAY, 0);

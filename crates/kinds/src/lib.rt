@@ -1,11 +1,12 @@
 // The twelve kinds of message over one zone (document 01's table of kinds): each is its checks, in the written order, and its
 // effect. The rules are in the crate `rules`, specs/Kinds.antt.
 ghost use mathlib.Core.Path.{_≡_};
-ghost use Rattle.rules.specs.Kinds.{answered, heard};
+ghost use Rattle.rules.specs.Kinds.{answered, heardOn};
 
 mod codes;
 
 use message::Message;
+use rules::Concerned;
 use rules::clearances::is_efficient;
 use station::Station;
 use zone::Answer;
@@ -51,98 +52,98 @@ pub const WRONG_MEDIUM: u8 = 21;
 
 pub const FORBIDDEN: u8 = 22;
 
-fn work_asked(st: Station, z: Zone, m: Message) -> Answer
-    ensures { λ r. ⌜ r ≡ answered 1 st z m ⌝ }
+fn work_asked(st: Station, routes: Concerned, z: Zone, m: Message) -> Answer
+    ensures { λ r. ⌜ r ≡ answered 1 st routes z m ⌝ }
 {
     let next = with_work(z, asked_for(m.id, m.d0, m.a), m.time);
-    settle(z, codes::work_asked(st, z, m), 0, next)
+    settle(z, codes::work_asked(st, routes, z, m), 0, next)
 }
 
-fn agreed(st: Station, z: Zone, m: Message) -> Answer
-    ensures { λ r. ⌜ r ≡ answered 2 st z m ⌝ }
+fn agreed(st: Station, routes: Concerned, z: Zone, m: Message) -> Answer
+    ensures { λ r. ⌜ r ≡ answered 2 st routes z m ⌝ }
 {
     let w = work_of(z);
     let next = with_work(z, agreed_from(w, m.time), m.time);
-    settle(z, codes::agreed(st, z, m), 0, next)
+    settle(z, codes::agreed(st, routes, z, m), 0, next)
 }
 
-fn withdrawn(st: Station, z: Zone, m: Message) -> Answer
-    ensures { λ r. ⌜ r ≡ answered 3 st z m ⌝ }
+fn withdrawn(st: Station, routes: Concerned, z: Zone, m: Message) -> Answer
+    ensures { λ r. ⌜ r ≡ answered 3 st routes z m ⌝ }
 {
     let next = with_work(z, Work::NoWork, m.time);
-    settle(z, codes::withdrawn(st, z, m), 0, next)
+    settle(z, codes::withdrawn(st, routes, z, m), 0, next)
 }
 
-fn detection_off(st: Station, z: Zone, m: Message) -> Answer
-    ensures { λ r. ⌜ r ≡ answered 4 st z m ⌝ }
+fn detection_off(st: Station, routes: Concerned, z: Zone, m: Message) -> Answer
+    ensures { λ r. ⌜ r ≡ answered 4 st routes z m ⌝ }
 {
     let w = work_of(z);
     let next = with_work(z, opened_to(w, sets::join(m.a, m.b)), m.time);
-    settle(z, codes::detection_off(st, z, m), 0, next)
+    settle(z, codes::detection_off(st, routes, z, m), 0, next)
 }
 
-fn movement_asked(st: Station, z: Zone, m: Message) -> Answer
-    ensures { λ r. ⌜ r ≡ answered 5 st z m ⌝ }
+fn movement_asked(st: Station, routes: Concerned, z: Zone, m: Message) -> Answer
+    ensures { λ r. ⌜ r ≡ answered 5 st routes z m ⌝ }
 {
     let next = at_time(with_movement(z, movement_for(m.id, m.d0)), m.time);
-    settle(z, codes::movement_asked(st, z, m), 0, next)
+    settle(z, codes::movement_asked(st, routes, z, m), 0, next)
 }
 
-fn clearance(st: Station, z: Zone, m: Message) -> Answer
-    ensures { λ r. ⌜ r ≡ answered 6 st z m ⌝ }
+fn clearance(st: Station, routes: Concerned, z: Zone, m: Message) -> Answer
+    ensures { λ r. ⌜ r ≡ answered 6 st routes z m ⌝ }
 {
     let w = work_of(z);
     let v = movement_under(z, m.id);
     let y = changed_under(z, m.id, cleared_at(v, m.d0, is_efficient(m.d1)));
     let next = with_work(y, shut_to(w, sets::only(m.d0 as usize)), m.time);
-    settle(z, codes::clearance(st, z, m), 0, next)
+    settle(z, codes::clearance(st, routes, z, m), 0, next)
 }
 
-fn ordered(st: Station, z: Zone, m: Message) -> Answer
-    ensures { λ r. ⌜ r ≡ answered 7 st z m ⌝ }
+fn ordered(st: Station, routes: Concerned, z: Zone, m: Message) -> Answer
+    ensures { λ r. ⌜ r ≡ answered 7 st routes z m ⌝ }
 {
     let v = movement_under(z, m.id);
     let next = at_time(changed_under(z, m.id, ordered_as(v, m.d0)), m.time);
-    settle(z, codes::ordered(st, z, m), 0, next)
+    settle(z, codes::ordered(st, routes, z, m), 0, next)
 }
 
-fn passed(st: Station, z: Zone, m: Message) -> Answer
-    ensures { λ r. ⌜ r ≡ answered 8 st z m ⌝ }
+fn passed(st: Station, routes: Concerned, z: Zone, m: Message) -> Answer
+    ensures { λ r. ⌜ r ≡ answered 8 st routes z m ⌝ }
 {
     let next = at_time(changed_under(z, m.id, Movement::NoMovement), m.time);
-    settle(z, codes::passed(st, z, m), 0, next)
+    settle(z, codes::passed(st, routes, z, m), 0, next)
 }
 
-fn cancelled(st: Station, z: Zone, m: Message) -> Answer
-    ensures { λ r. ⌜ r ≡ answered 9 st z m ⌝ }
+fn cancelled(st: Station, routes: Concerned, z: Zone, m: Message) -> Answer
+    ensures { λ r. ⌜ r ≡ answered 9 st routes z m ⌝ }
 {
     let next = at_time(changed_under(z, m.id, Movement::NoMovement), m.time);
-    settle(z, codes::cancelled(st, z, m), 0, next)
+    settle(z, codes::cancelled(st, routes, z, m), 0, next)
 }
 
-fn part_restored(st: Station, z: Zone, m: Message) -> Answer
-    ensures { λ r. ⌜ r ≡ answered 10 st z m ⌝ }
+fn part_restored(st: Station, routes: Concerned, z: Zone, m: Message) -> Answer
+    ensures { λ r. ⌜ r ≡ answered 10 st routes z m ⌝ }
 {
     let w = work_of(z);
     let next = with_work(z, restored_of(w, m.a), m.time);
-    settle(z, codes::part_restored(st, z, m), 0, next)
+    settle(z, codes::part_restored(st, routes, z, m), 0, next)
 }
 
-fn all_restored(st: Station, z: Zone, m: Message) -> Answer
-    ensures { λ r. ⌜ r ≡ answered 11 st z m ⌝ }
+fn all_restored(st: Station, routes: Concerned, z: Zone, m: Message) -> Answer
+    ensures { λ r. ⌜ r ≡ answered 11 st routes z m ⌝ }
 {
     let w = work_of(z);
     let next = with_work(z, Work::NoWork, m.time);
     settle(
         z,
-        codes::all_restored(st, z, m),
+        codes::all_restored(st, routes, z, m),
         minutes_between(agreed_at(w), m.time),
         next,
     )
 }
 
-fn recorder(st: Station, z: Zone, m: Message) -> Answer
-    ensures { λ r. ⌜ r ≡ answered 12 st z m ⌝ }
+fn recorder(st: Station, routes: Concerned, z: Zone, m: Message) -> Answer
+    ensures { λ r. ⌜ r ≡ answered 12 st routes z m ⌝ }
 {
     Answer {
         code: 0,
@@ -152,33 +153,33 @@ fn recorder(st: Station, z: Zone, m: Message) -> Answer
 }
 
 // A message heard by its zone once 14 is past: the checks and the effect of its kind.
-fn hear_kind(st: Station, z: Zone, m: Message) -> Answer
-    ensures { λ r. ⌜ r ≡ answered (m .kind) st z m ⌝ }
+fn hear_kind(st: Station, routes: Concerned, z: Zone, m: Message) -> Answer
+    ensures { λ r. ⌜ r ≡ answered (m .kind) st routes z m ⌝ }
 {
     let kind = m.kind;
     match kind {
-        message::WORK_ASKED => work_asked(st, z, m),
-        message::AGREED => agreed(st, z, m),
-        message::WITHDRAWN => withdrawn(st, z, m),
-        message::DETECTION_OFF => detection_off(st, z, m),
-        message::MOVEMENT_ASKED => movement_asked(st, z, m),
-        message::CLEARANCE => clearance(st, z, m),
-        message::ORDERED => ordered(st, z, m),
-        message::PASSED => passed(st, z, m),
-        message::CANCELLED => cancelled(st, z, m),
-        message::PART_RESTORED => part_restored(st, z, m),
-        message::ALL_RESTORED => all_restored(st, z, m),
-        message::RECORDER => recorder(st, z, m),
+        message::WORK_ASKED => work_asked(st, routes, z, m),
+        message::AGREED => agreed(st, routes, z, m),
+        message::WITHDRAWN => withdrawn(st, routes, z, m),
+        message::DETECTION_OFF => detection_off(st, routes, z, m),
+        message::MOVEMENT_ASKED => movement_asked(st, routes, z, m),
+        message::CLEARANCE => clearance(st, routes, z, m),
+        message::ORDERED => ordered(st, routes, z, m),
+        message::PASSED => passed(st, routes, z, m),
+        message::CANCELLED => cancelled(st, routes, z, m),
+        message::PART_RESTORED => part_restored(st, routes, z, m),
+        message::ALL_RESTORED => all_restored(st, routes, z, m),
+        message::RECORDER => recorder(st, routes, z, m),
         _ => refused_in(z, message::BAD_KIND),
     }
 }
 
 // A message heard by its zone: 14, then the checks and the effect of its kind.
-pub fn hear(st: Station, z: Zone, m: Message) -> Answer
-    ensures { λ r. ⌜ r ≡ heard st z m ⌝ }
+pub fn hear(st: Station, routes: Concerned, z: Zone, m: Message) -> Answer
+    ensures { λ r. ⌜ r ≡ heardOn st routes z m ⌝ }
 {
     if m.time < z.time {
         return refused_in(z, TOO_EARLY);
     }
-    hear_kind(st, z, m)
+    hear_kind(st, routes, z, m)
 }

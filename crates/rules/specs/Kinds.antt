@@ -3,13 +3,12 @@
 use mathlib.Core.Bool.{Bool, true, cond, not, _&&_, _||_}
 use mathlib.Core.List.{List, [], _∷_}
 use Prim.Native.Nat.{ℕ}
-use lib.Bits.{bitAnd}
 use lib.Dec.{eqb, ltb}
 use lib.ListN.{getD}
 use Rattle.sets.specs.Sets.{has, single, isEmpty, overlaps, within, union}
 use Rattle.station.specs.declared.Route.{Route}
 use Rattle.station.specs.declared.Station.{Station}
-use Rattle.station.specs.Station.{routeCount, theRoute, namedBy, zoneTurnouts, splits}
+use Rattle.station.specs.Station.{routeCount, zoneTurnouts, splits}
 use Rattle.message.specs.declared.Message.{Message}
 use Rattle.zone.specs.declared.Work.{Work}
 use Rattle.zone.specs.declared.Work.the-variants.{NoWork}
@@ -17,10 +16,12 @@ use Rattle.zone.specs.declared.Movement.{Movement}
 use Rattle.zone.specs.declared.Movement.the-variants.{NoMovement}
 use Rattle.zone.specs.declared.Zone.{Zone}
 use Rattle.zone.specs.declared.Answer.{Answer}
-use Rattle.zone.specs.Work.{hasWork, isAgreed, underForm, manner, workSet, agreedSet, agreedAt, minutesBetween, askedFor, agreedFrom, openedTo, shutTo, restoredOf}
-use Rattle.zone.specs.Movement.{isStanding, isOrdered, clearedSet, routeFor, regimeOf, orderRefused, movementFor, clearedAt, orderedAs}
-use Rattle.zone.specs.Trains.{movementUnder, noPlace, namedStanding, clearedStanding, withMovement, changedUnder}
+use Rattle.zone.specs.Work.{hasWork, isAgreed, underForm, manner, workSet, agreedAt, minutesBetween, askedFor, agreedFrom, openedTo, shutTo, restoredOf}
+use Rattle.zone.specs.Movement.{isStanding, isOrdered, clearedSet, workedTurnouts, regimeOn, orderRefused, movementFor, clearedAt, orderedAs}
+use Rattle.zone.specs.Trains.{noPlace, namedStanding, clearedStanding, withMovement, changedUnder}
 use Rattle.zone.specs.Zone.{workOf, nextZone, refusedIn, settled}
+use Rattle.rules.specs.declared.Concerned.{Concerned}
+use Rattle.rules.specs.Routes.{itsMovement, concerned}
 use Rattle.rules.specs.Clearance.{isEfficient, clearanceFits, mediumFits}
 
 -- a check: the number that is given where the test holds
@@ -33,21 +34,13 @@ abbrev pub first : List Check → ℕ
 first [] = 0
 first ((test gives number) ∷ rest) = cond test number (first rest)
 
--- a row of the table: the checks of a kind
+-- a row of the table: the checks of a kind, the routes that bear on the message being given
 abbrev pub Row : Type 0
-Row = Station → Zone → Message → List Check
+Row = Station → Concerned → Zone → Message → List Check
 
 -- 15: "no work or movement under this id"
 abbrev pub noWorkUnder : Zone → Message → Bool
 noWorkUnder z m = not (underForm (workOf z) (m .id))
-
--- the movement that a message of kinds 6 to 9 is about
-abbrev pub itsMovement : Zone → Message → Movement
-itsMovement z m = movementUnder z (m .id)
-
--- and its route
-abbrev pub itsRoute : Station → Zone → Message → Route
-itsRoute st z m = routeFor st (itsMovement z m)
 
 -- 15 of kinds 6 to 9
 abbrev pub noMovementUnder : Zone → Message → Bool
@@ -62,8 +55,8 @@ abbrev pub badDetection : ℕ → ℕ → ℕ → Bool
 badDetection set a b = isEmpty (union a b) || overlaps a b || not (within (union a b) set)
 
 -- "route not below R or of another zone"
-abbrev pub badRoute : Station → ℕ → ℕ → Bool
-badRoute st zone route = not (ltb route (routeCount st)) || not (eqb (theRoute st route .zone) zone)
+abbrev pub badRoute : Station → Route → ℕ → ℕ → Bool
+badRoute st r zone route = not (ltb route (routeCount st)) || not (eqb (r .zone) zone)
 
 -- "a empty, not a proper part of the work, or splitting a crossover"
 abbrev pub badPart : Station → ℕ → ℕ → Bool
@@ -87,23 +80,23 @@ isCleared v n = has (clearedSet v) n
 
 -- "not under agreed work or not named": of turnout n, a route and the zone's work
 abbrev pub notWorked : Route → Work → ℕ → Bool
-notWorked r w n = not (has (bitAnd (namedBy r) (agreedSet w)) n)
+notWorked r w n = not (has (workedTurnouts r w) n)
 
 -- a clearance that does not fit its turnout in a route
 abbrev pub misfits : Station → Route → Message → Bool
 misfits st r m = not (clearanceFits st r m)
 
--- an order that the regime forbids
-abbrev pub orderForbidden : Station → Work → Movement → ℕ → Bool
-orderForbidden st w v order = orderRefused order (regimeOf st w v)
+-- an order that the regime on a route forbids
+abbrev pub orderForbidden : Route → Work → Movement → ℕ → Bool
+orderForbidden r w v order = orderRefused order (regimeOn r w v)
 
 -- 1 work asked: "16 work in zone; 17 .."
 abbrev pub row1 : Row
-row1 st z m = (hasWork (workOf z) gives 16) ∷ (badRequest st (m .zone) (m .a) gives 17) ∷ []
+row1 st routes z m = (hasWork (workOf z) gives 16) ∷ (badRequest st (m .zone) (m .a) gives 17) ∷ []
 
 -- 2 agreed: "15; 18 agreed already; 19"
 abbrev pub row2 : Row
-row2 st z m =
+row2 st routes z m =
     (noWorkUnder z m gives 15)
     ∷ (isAgreed (workOf z) gives 18)
     ∷ (inTheWay st z (workSet (workOf z)) gives 19)
@@ -111,11 +104,11 @@ row2 st z m =
 
 -- 3 withdrawn: "15; 18 agreed"
 abbrev pub row3 : Row
-row3 st z m = (noWorkUnder z m gives 15) ∷ (isAgreed (workOf z) gives 18) ∷ []
+row3 st routes z m = (noWorkUnder z m gives 15) ∷ (isAgreed (workOf z) gives 18) ∷ []
 
 -- 4 detection off: "15; 17 ..; 18 not agreed; 19 a cleared turnout in a or b; 22 b not empty under verbal (3.19, 3.20)"
 abbrev pub row4 : Row
-row4 st z m =
+row4 st routes z m =
     (noWorkUnder z m gives 15)
     ∷ (badDetection (workSet (workOf z)) (m .a) (m .b) gives 17)
     ∷ (not (isAgreed (workOf z)) gives 18)
@@ -125,37 +118,37 @@ row4 st z m =
 
 -- 5 movement asked: "16 movement in zone; 17 .."
 abbrev pub row5 : Row
-row5 st z m = (noPlace z gives 16) ∷ (badRoute st (m .zone) (m .d0) gives 17) ∷ []
+row5 st routes z m = (noPlace z gives 16) ∷ (badRoute st (routes .asked) (m .zone) (m .d0) gives 17) ∷ []
 
 -- 6 clearance: "15; 16 cleared already; 17 not under agreed work or not named; 20; 21"
 abbrev pub row6 : Row
-row6 st z m =
+row6 st routes z m =
     (noMovementUnder z m gives 15)
     ∷ (isCleared (itsMovement z m) (m .d0) gives 16)
-    ∷ (notWorked (itsRoute st z m) (workOf z) (m .d0) gives 17)
-    ∷ (misfits st (itsRoute st z m) m gives 20)
+    ∷ (notWorked (routes .its) (workOf z) (m .d0) gives 17)
+    ∷ (misfits st (routes .its) m gives 20)
     ∷ (not (mediumFits (z .recorder) (m .d4)) gives 21)
     ∷ []
 
 -- 7 ordered: "15; 18 ordered already; 22"
 abbrev pub row7 : Row
-row7 st z m =
+row7 st routes z m =
     (noMovementUnder z m gives 15)
     ∷ (isOrdered (itsMovement z m) gives 18)
-    ∷ (orderForbidden st (workOf z) (itsMovement z m) (m .d0) gives 22)
+    ∷ (orderForbidden (routes .its) (workOf z) (itsMovement z m) (m .d0) gives 22)
     ∷ []
 
 -- 8 passed: "15; 18 not ordered"
 abbrev pub row8 : Row
-row8 st z m = (noMovementUnder z m gives 15) ∷ (not (isOrdered (itsMovement z m)) gives 18) ∷ []
+row8 st routes z m = (noMovementUnder z m gives 15) ∷ (not (isOrdered (itsMovement z m)) gives 18) ∷ []
 
 -- 9 cancelled: "15; 18 ordered"
 abbrev pub row9 : Row
-row9 st z m = (noMovementUnder z m gives 15) ∷ (isOrdered (itsMovement z m) gives 18) ∷ []
+row9 st routes z m = (noMovementUnder z m gives 15) ∷ (isOrdered (itsMovement z m) gives 18) ∷ []
 
 -- 10 part restored: "15; 17 ..; 18 not agreed; 19; 22 under M.45 (2.13)"
 abbrev pub row10 : Row
-row10 st z m =
+row10 st routes z m =
     (noWorkUnder z m gives 15)
     ∷ (badPart st (workSet (workOf z)) (m .a) gives 17)
     ∷ (not (isAgreed (workOf z)) gives 18)
@@ -165,7 +158,7 @@ row10 st z m =
 
 -- 11 all restored: "15; 18 not agreed; 19"
 abbrev pub row11 : Row
-row11 st z m =
+row11 st routes z m =
     (noWorkUnder z m gives 15)
     ∷ (not (isAgreed (workOf z)) gives 18)
     ∷ (inTheWay st z (workSet (workOf z)) gives 19)
@@ -173,11 +166,11 @@ row11 st z m =
 
 -- 12 recorder: no check
 abbrev pub row12 : Row
-row12 st z m = []
+row12 st routes z m = []
 
 -- 11, "kind not 1-12"; the desk gives it before 14, so that this row is never asked
 abbrev pub noKind : Row
-noKind st z m = (true gives 11) ∷ []
+noKind st routes z m = (true gives 11) ∷ []
 
 -- the table of kinds
 abbrev pub rows : List Row
@@ -241,11 +234,21 @@ unfoldable pub zoneAfter : ℕ → Zone → Message → Zone
 zoneAfter kind z m =
     nextZone (moved kind z m) (workAfter kind (workOf z) m) (recorderAfter kind (z .recorder) m) (m .time)
 
--- the answer of a kind, after 14
-unfoldable pub answered : ℕ → Station → Zone → Message → Answer
-answered kind st z m = settled z (first (row kind st z m)) (minutesFor kind (workOf z) m) (zoneAfter kind z m)
+-- the checks of a kind, the routes being the station's
+abbrev pub checksOf : ℕ → Station → Zone → Message → List Check
+checksOf kind st z m = row kind st (concerned st z m) z m
 
--- a message heard by its zone, after 11, 13 and 12: 14, "time before the zone's last accepted", then the checks of its kind
+-- the answer of a kind, after 14
+unfoldable pub answered : ℕ → Station → Concerned → Zone → Message → Answer
+answered kind st routes z m =
+    settled z (first (row kind st routes z m)) (minutesFor kind (workOf z) m) (zoneAfter kind z m)
+
+-- a message heard by its zone, after 11, 13 and 12, the routes being given: 14, "time before the zone's last accepted", then the checks of
+-- its kind
+unfoldable pub heardOn : Station → Concerned → Zone → Message → Answer
+heardOn st routes z m =
+    cond (ltb (m .time) (z .time)) (refusedIn z 14) (answered (m .kind) st routes z m)
+
+-- the same, the routes being the station's
 unfoldable pub heard : Station → Zone → Message → Answer
-heard st z m =
-    cond (ltb (m .time) (z .time)) (refusedIn z 14) (answered (m .kind) st z m)
+heard st z m = heardOn st (concerned st z m) z m

@@ -1,2 +1,3 @@
 pub mod Clearance
+pub mod Routes
 pub mod Kinds

@@ -18,6 +18,7 @@ ghost use Rattle.rules.specs.Kinds.{
 };
 
 pub mod clearances;
+pub mod routes;
 
 use clearances::clearance_fits;
 use message::Message;
@@ -30,13 +31,25 @@ use zone::movements::cleared_set;
 use zone::movements::is_standing;
 use zone::movements::order_refused;
 use zone::movements::regime;
+use zone::movements::worked_turnouts;
 use zone::trains::cleared_standing;
 use zone::trains::movement_under;
 use zone::trains::named_standing;
 use zone::work_of;
-use zone::works::agreed_set;
 use zone::works::manner_of;
 use zone::works::under_form;
+
+// The routes that bear on a message: the one that it asks for, and that of the movement under its id.
+pub struct Concerned {
+    pub asked: Route,
+    pub its: Route,
+}
+
+// Their numbers; 255 for one that is not there.
+pub struct RouteNumbers {
+    pub asked: u8,
+    pub its: u8,
+}
 
 // 15: no work under this id.
 pub fn no_work_under(z: Zone, m: Message) -> bool
@@ -70,11 +83,10 @@ pub fn bad_detection(set: u64, a: u64, b: u64) -> bool
 }
 
 // 17 of a movement: route not below R or of another zone.
-pub fn bad_route(st: Station, zone: u8, route: u8) -> bool
-    ensures { λ r. ⌜ r ≡ badRoute st zone route ⌝ }
+pub fn bad_route(st: Station, r: Route, zone: u8, route: u8) -> bool
+    ensures { λ b. ⌜ b ≡ badRoute st r zone route ⌝ }
 {
     let n = route as usize;
-    let r = station::route_of(st, n);
     let count = station::route_count(st);
     !(n < count) | !(r.zone == zone)
 }
@@ -118,7 +130,7 @@ pub fn is_cleared(v: Movement, n: u8) -> bool
 pub fn not_worked(r: Route, w: Work, n: u8) -> bool
     ensures { λ b. ⌜ b ≡ notWorked r w n ⌝ }
 {
-    !sets::contains(station::names(r) & agreed_set(w), n as usize)
+    !sets::contains(worked_turnouts(r, w), n as usize)
 }
 
 // 20: the clearance does not fit its turnout.
@@ -128,9 +140,9 @@ pub fn misfit(st: Station, r: Route, m: Message) -> bool
     !clearance_fits(st, r, m)
 }
 
-// 22 of an order: the regime forbids it.
-pub fn order_forbidden(st: Station, w: Work, v: Movement, order: u8) -> bool
-    ensures { λ r. ⌜ r ≡ orderForbidden st w v order ⌝ }
+// 22 of an order: the regime on the route forbids it.
+pub fn order_forbidden(r: Route, w: Work, v: Movement, order: u8) -> bool
+    ensures { λ b. ⌜ b ≡ orderForbidden r w v order ⌝ }
 {
-    order_refused(order, regime(st, w, v))
+    order_refused(order, regime(r, w, v))
 }

@@ -77,6 +77,14 @@ namedBy r = union (union (r .over) (r .flank)) (r .exits)
 unfoldable pub theRoute : Station → ℕ → Route
 theRoute st n = cond (ltb n (routeCount st)) (routeAt st n) emptyRoute
 
+-- the same for whoever keeps the 64 records himself: the index of the record to look at, 0 for a number from 64 on, and the route by that
+-- record, of a station whose count of routes is given. The law `route-by-record` says that this is the route as it counts.
+abbrev pub routeIndex : ℕ → ℕ
+routeIndex n = cond (ltb n 64) n 0
+
+abbrev pub routeBy : ℕ → ℕ → Route → Route
+routeBy count n r = cond (ltb n (min count 64)) r emptyRoute
+
 -- a set takes all of a group of tied turnouts, or none
 abbrev pub whole : ℕ → ℕ → Bool
 whole group s = within group s || not (overlaps group s)

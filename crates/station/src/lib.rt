@@ -1,6 +1,7 @@
 // Stations (document 01, 'Station sheet'): what a station says of its turnouts, routes and zones. The rules are in
 // specs/Station.antt. Every function takes any station value, also one that no sheet gave. The crate `sheet` reads a station.
 ghost use mathlib.Core.Path.{_≡_};
+ghost use Prim.Native.Nat.{_<_};
 ghost use Rattle.station.specs.Station.{
   emptyRoute,
   numberIf,
@@ -12,6 +13,8 @@ ghost use Rattle.station.specs.Station.{
   tied,
   zoneTurnouts,
   theRoute,
+  routeIndex,
+  routeBy,
   namedBy,
   splits,
 };
@@ -34,20 +37,20 @@ pub struct Turnout {
 
 // A route: its zone, the sets that it runs over, of its flank and of its exit zone, and those that lie reverse.
 pub struct Route {
-    pub zone: u8,
     pub over: u64,
     pub flank: u64,
     pub exits: u64,
     pub reverse: u64,
+    pub zone: u8,
 }
 
 // A station: the counts P, R and Z, and the records; those past P and R are 0.
 pub struct Station {
+    pub route: [Route; 64],
+    pub turnout: [Turnout; 64],
     pub turnouts: u8,
     pub routes: u8,
     pub zones: u8,
-    pub turnout: [Turnout; 64],
-    pub route: [Route; 64],
 }
 
 // How many turnouts, at most 64.
@@ -139,6 +142,29 @@ pub fn route_of(st: Station, n: usize) -> Route
     let rs = st.route;
     if n < route_count(st) {
         return rs[n];
+    }
+    observe::no_route()
+}
+
+// The index of a route's record in a station; 0 for a number from 64 on.
+pub fn route_index(n: u8) -> usize
+    ensures { λ r. ⌜ r ≡ routeIndex n ⌝ }
+    ensures { λ r. ⌜ r < 64 ⌝ }
+{
+    let n = n as usize;
+    if n < ROUTES {
+        return n;
+    }
+    0
+}
+
+// Route n by its record, of so many routes; one not below the count has every number 0.
+pub fn route_by(count: u8, n: u8, r: Route) -> Route
+    ensures { λ q. ⌜ q ≡ routeBy count n r ⌝ }
+{
+    let n = n as usize;
+    if n < observe::at_most_64(count) {
+        return r;
     }
     observe::no_route()
 }

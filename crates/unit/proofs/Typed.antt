@@ -28,7 +28,7 @@ use Rattle.zone.specs.Work.{agreedFrom, openedTo, shutTo, restoredOf}
 use Rattle.zone.specs.Movement.{movementFor, clearedAt, orderedAs}
 use Rattle.rules.specs.Clearance.{isEfficient}
 use Rattle.zone.specs.Zone.{freshZone}
-use Rattle.rules.specs.Kinds.{first, row, rows, noKind, workAfter, moved, zoneAfter}
+use Rattle.rules.specs.Kinds.{first, row, rows, checksOf, noKind, workAfter, moved, zoneAfter}
 use Rattle.zone.specs.Trains.{movementUnder, changed}
 use Rattle.zone.proofs.EachTrain.{every-placed, every-changed, every-under}
 use Rattle.desk.specs.declared.Desk.{Desk}
@@ -121,7 +121,7 @@ ordered-typed NoMovement order fits = fits
 ordered-typed (Standing p) order fits = record { train = fits .train; cleared = fits .cleared; efficient = fits .efficient }
 
 -- a zone after a message that passed the checks of its kind
-after-typed : (st : Station) (z : Zone) (m : Message) → Typed m → TypedZone z → first (row (m .kind) st z m) ≡ 0 → TypedZone (zoneAfter (m .kind) z m)
+after-typed : (st : Station) (z : Zone) (m : Message) → Typed m → TypedZone z → first (checksOf (m .kind) st z m) ≡ 0 → TypedZone (zoneAfter (m .kind) z m)
 unfolding zoneAfter row workAfter moved
 after-typed st z m told fits checks =
     let both = by-kind (m .kind) checks in
@@ -136,9 +136,9 @@ after-typed st z m told fits checks =
     becomes : (v : Movement) → TypedMovement v → TypedMovement (changed (z .movement) (m .id) v)
     becomes v new = every-changed TypedMovement (z .movement) (m .id) v (fits .movement) new
 
-    by-kind : (k : ℕ) → first (row k st z m) ≡ 0 → TypedWork (workAfter k (z .work) m) × TypedMovement (moved k z m .movement)
+    by-kind : (k : ℕ) → first (checksOf k st z m) ≡ 0 → TypedWork (workAfter k (z .work) m) × TypedMovement (moved k z m .movement)
     by-kind =
-        each-kind (λ k. first (row k st z m) ≡ 0 → TypedWork (workAfter k (z .work) m) × TypedMovement (moved k z m .movement))
+        each-kind (λ k. first (checksOf k st z m) ≡ 0 → TypedWork (workAfter k (z .work) m) × TypedMovement (moved k z m .movement))
         ((λ none. absurd (omega arith))
         also (λ none. (record { form = told .id; set = told .a; since = lit< tt; opened = lit< tt }, fits .movement))
         also (λ none. (agreed-typed (z .work) (m .time) (fits .work) (told .time), fits .movement))

@@ -11,10 +11,10 @@ use Rattle.sheet.specs.Partners.{goodTurnout, badTurnout}
 use Rattle.sheet.specs.Sheet.{goodRoute, badRoute, routesJudged, judged, readSheet}
 use Rattle.signals.specs.Answer as Verdicts
 use Rattle.zone.specs.Work.{minutesBetween}
-use Rattle.zone.specs.Movement.{regimeOf}
+use Rattle.zone.specs.Movement.{regimeOn}
 use Rattle.zone.specs.Trains.{movementUnder, noPlace, namedStanding, clearedStanding, placed, changed}
 use Rattle.rules.specs.Clearance.{clearanceFits}
-use Rattle.rules.specs.Kinds.{row, workAfter, moved, recorderAfter, minutesFor, zoneAfter, answered, heard}
+use Rattle.rules.specs.Kinds.{row, workAfter, moved, recorderAfter, minutesFor, zoneAfter, answered, heardOn, heard}
 use Rattle.desk.specs.Desk.{freshDesk, reached, applied, appliedRecord}
 use Rattle.desk.specs.Questions.{movementAnswered, workAnswered}
 use Rattle.journal.specs.Journal.{isJournal, journalNumber, counted, recordsFrom, records}
@@ -25,7 +25,7 @@ use Rattle.replay.specs.Replay.{inputsOf, storedFrom, ran, replayed}
 use Rattle.worked_cases.specs.StationK.{Cases}
 
 pub station-k : Cases
-unfolding readSheet headerNumber stationIn places valuesFrom judged routesJudged badTurnout badRoute goodTurnout goodRoute firstFrom allFrom tied tiedWith has single after answers accepted ofZone reached applied appliedRecord readRecord decoded headBytes encoded named fieldsKept fieldNumber heard answered row workAfter moved movementUnder noPlace namedStanding clearedStanding placed changed recorderAfter minutesFor minutesBetween zoneAfter zoneTurnouts setOf splits theRoute regimeOf clearanceFits freshDesk movementAnswered workAnswered isJournal journalNumber counted recordsFrom records inputsOf replayed ran storedFrom withAnswer textOf linesFrom lineOf decimal digits Verdicts.judged
+unfolding readSheet headerNumber stationIn places valuesFrom judged routesJudged badTurnout badRoute goodTurnout goodRoute firstFrom allFrom tied tiedWith has single after answers accepted ofZone reached applied appliedRecord readRecord decoded headBytes encoded named fieldsKept fieldNumber heard heardOn answered row workAfter moved movementUnder noPlace namedStanding clearedStanding placed changed recorderAfter minutesFor minutesBetween zoneAfter zoneTurnouts setOf splits theRoute regimeOn clearanceFits freshDesk movementAnswered workAnswered isJournal journalNumber counted recordsFrom records inputsOf replayed ran storedFrom withAnswer textOf linesFrom lineOf decimal digits Verdicts.judged
 station-k = record {
   sheet = refl;
   output = refl;

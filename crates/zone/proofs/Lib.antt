@@ -1,1 +1,2 @@
 pub mod EachTrain
+pub mod Numbers

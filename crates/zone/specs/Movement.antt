@@ -49,22 +49,34 @@ abbrev pub routeFor : Station → Movement → Route
 routeFor st NoMovement = emptyRoute
 routeFor st (Standing p) = theRoute st (p .route)
 
+-- the number of its route; 255, which no route has, where none stands
+abbrev pub routeNumber : Movement → ℕ
+routeNumber NoMovement = 255
+routeNumber (Standing p) = p .route
+
 -- the turnouts that a standing movement names
 abbrev pub namedTurnouts : Station → Movement → ℕ
 namedTurnouts st v = namedBy (routeFor st v)
 
 -- "the route's turnouts under agreed work"
-abbrev pub workedTurnouts : Station → Work → Movement → ℕ
-workedTurnouts st w v = bitAnd (namedTurnouts st v) (agreedSet w)
+abbrev pub workedTurnouts : Route → Work → ℕ
+workedTurnouts r w = bitAnd (namedBy r) (agreedSet w)
 
--- those of them that lack a clearance
-abbrev pub lacking : Station → Work → Movement → ℕ
-lacking st w v = without (workedTurnouts st w v) (clearedSet v)
+-- those of them that are not cleared for a movement
+abbrev pub lackingOn : Route → Work → Movement → ℕ
+lackingOn r w v = without (workedTurnouts r w) (clearedSet v)
 
 -- "Regime: of the route's turnouts under agreed work, held if one lacks a clearance, else clear if all carry 1 or 2, else danger."
-unfoldable pub regimeOf : Station → Work → Movement → Regime
-regimeOf st w v =
-    cond (not (isEmpty (lacking st w v))) Held (cond (within (workedTurnouts st w v) (efficientSet v)) Clear Danger)
+unfoldable pub regimeOn : Route → Work → Movement → Regime
+regimeOn r w v =
+    cond (not (isEmpty (lackingOn r w v))) Held (cond (within (workedTurnouts r w) (efficientSet v)) Clear Danger)
+
+-- the same of a movement, on its own route
+abbrev pub lacking : Station → Work → Movement → ℕ
+lacking st w v = lackingOn (routeFor st v) w v
+
+abbrev pub regimeOf : Station → Work → Movement → Regime
+regimeOf st w v = regimeOn (routeFor st v) w v
 
 abbrev pub isHeld : Regime → Bool
 isHeld Held = true

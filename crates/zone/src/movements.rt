@@ -9,10 +9,11 @@ ghost use Rattle.zone.specs.Movement.{
   clearedSet,
   efficientSet,
   routeFor,
+  routeNumber,
   namedTurnouts,
   workedTurnouts,
-  lacking,
-  regimeOf,
+  lackingOn,
+  regimeOn,
   orderRefused,
   isHeld,
   isClear,
@@ -108,25 +109,35 @@ pub fn named_turnouts(st: Station, v: Movement) -> u64
     station::names(route_for(st, v))
 }
 
-// The movement's turnouts under agreed work.
-pub fn worked_turnouts(st: Station, w: Work, v: Movement) -> u64
-    ensures { λ r. ⌜ r ≡ workedTurnouts st w v ⌝ }
+// The number of the movement's route; 255, which no route has, where none stands.
+pub fn route_number(v: Movement) -> u8
+    ensures { λ r. ⌜ r ≡ routeNumber v ⌝ }
 {
-    named_turnouts(st, v) & agreed_set(w)
+    match v {
+        Movement::NoMovement => 255,
+        Movement::Standing(p) => p.route,
+    }
 }
 
-// Those of them that lack a clearance.
-pub fn lacking_clearance(st: Station, w: Work, v: Movement) -> u64
-    ensures { λ r. ⌜ r ≡ lacking st w v ⌝ }
+// The route's turnouts under agreed work.
+pub fn worked_turnouts(r: Route, w: Work) -> u64
+    ensures { λ s. ⌜ s ≡ workedTurnouts r w ⌝ }
 {
-    sets::minus(worked_turnouts(st, w, v), cleared_set(v))
+    station::names(r) & agreed_set(w)
 }
 
-// The regime of the movement.
-pub fn regime(st: Station, w: Work, v: Movement) -> Regime
-    ensures { λ r. ⌜ r ≡ regimeOf st w v ⌝ }
+// Those of them that lack a clearance of the movement.
+pub fn lacking_clearance(r: Route, w: Work, v: Movement) -> u64
+    ensures { λ s. ⌜ s ≡ lackingOn r w v ⌝ }
 {
-    let worked = worked_turnouts(st, w, v);
+    sets::minus(worked_turnouts(r, w), cleared_set(v))
+}
+
+// The regime of the movement on the route.
+pub fn regime(r: Route, w: Work, v: Movement) -> Regime
+    ensures { λ g. ⌜ g ≡ regimeOn r w v ⌝ }
+{
+    let worked = worked_turnouts(r, w);
     if !sets::is_empty(sets::minus(worked, cleared_set(v))) {
         return Regime::Held;
     }

@@ -10,17 +10,18 @@ returns c =
 
 returns-2 : tie.Need-returns-2
 returns-2 c =
-    let work = c .before .before .before .before .before .before .before .work-of in
-    let its = c .before .before .before .before .before .before .movement-under in
-    let stands = c .before .before .before .before .before .is-standing in
+    let work = c .before .before .before .before .before .before .before .before .work-of in
+    let its = c .before .before .before .before .before .before .before .movement-under in
+    let stands = c .before .before .before .before .before .before .is-standing in
     rw (
       ← its .ensures,
       ← stands .ensures,
-      c .before .before .before .before .if1 .left,
+      c .before .before .before .before .before .if1 .left,
       c .how-many .ensures,
       c .before .lowest-of .ensures,
       c .before .before .regime .ensures,
       c .before .before .before .lacking-clearance .ensures,
+      c .before .before .before .before .route-for .ensures,
       work .ensures,
     )
 
@@ -33,6 +34,7 @@ movement-in-spec =
     (λ c κs. search needs)
     (λ c κs. search needs)
     returns
+    (λ c κs. search needs)
     (λ c κs. search needs)
     (λ c κs. search needs)
     (λ c κs. search needs)

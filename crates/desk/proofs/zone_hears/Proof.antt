@@ -1,4 +1,3 @@
-use borrow.Author.Tests.{lt-ltb, le-ltb}
 use Rattle.desk.specs.Desk.{zoneHears}
 use borrow.Author.Needs.{needs}
 use Rattle.desk.proofs.zone_hears.Statement.{statement}
@@ -6,25 +5,12 @@ use Rattle.desk.proofs.zone_hears.Tie as tie
 
 returns : tie.Need-returns
 unfolding zoneHears
-returns c =
-    let n = c .before .before .zone-count in
-    let m = c .before .before .before .before .args .m in
-    rw (c .refused-in .ensures, ← n .ensures, le-ltb (m .zone) (n .result) (c .before .if1 .taken))
-
-returns-2 : tie.Need-returns-2
-unfolding zoneHears
-returns-2 c =
-    let n = c .before .before .zone-count in
-    let m = c .before .before .before .before .args .m in
-    rw (c .hear .ensures, ← n .ensures, lt-ltb (m .zone) (n .result) (c .before .if1 .left))
+returns c = rw (c .zone-hears-on .ensures, c .before .routes-concerned .ensures)
 
 pub zone-hears-spec : {M : Type 1} → statement M
 zone-hears-spec =
     tie.close
     (tie.spec
-    (λ c. search needs)
     (λ c κs. search needs)
     (λ c κs. search needs)
-    returns
-    (λ c κs. search needs)
-    returns-2)
+    returns)

@@ -1,17 +1,17 @@
 use borrow.Author.Tests.{lt-ltb, le-ltb}
-use Rattle.rules.specs.Kinds.{heard}
+use Rattle.rules.specs.Kinds.{heardOn}
 use borrow.Author.Needs.{needs}
 use Rattle.kinds.proofs.hear.Statement.{statement}
 use Rattle.kinds.proofs.hear.Tie as tie
 
 returns : tie.Need-returns
-unfolding heard
+unfolding heardOn
 returns c =
     let a = c .before .before .before .before .args in
     rw (c .refused-in .ensures, lt-ltb (a .m .time) (a .z .time) (c .before .if1 .taken))
 
 returns-2 : tie.Need-returns-2
-unfolding heard
+unfolding heardOn
 returns-2 c =
     let a = c .before .before .before .before .args in
     rw (c .hear-kind .ensures, le-ltb (a .m .time) (a .z .time) (c .before .if1 .left))

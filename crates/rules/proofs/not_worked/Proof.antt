@@ -6,9 +6,8 @@ returns : tie.Need-returns
 returns c =
     rw (
       c .contains .ensures,
-      c .before .agreed-set .ensures,
-      c .before .before .names .ensures,
+      c .before .worked-turnouts .ensures,
     )
 
 pub not-worked-spec : {M : Type 1} → statement M
-not-worked-spec = tie.close (tie.spec (λ c κs. search needs) (λ c κs. search needs) (λ c κs. search needs) returns)
+not-worked-spec = tie.close (tie.spec (λ c κs. search needs) (λ c κs. search needs) returns)

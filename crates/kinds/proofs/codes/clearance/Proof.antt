@@ -17,7 +17,6 @@ returns c =
       c .before .before .before .before .before .before .before .misfit .ensures,
       c .before .before .before .before .before .before .before .before .first-code .ensures,
       c .before .before .before .before .before .before .before .before .before .medium-fits .ensures,
-      c .before .before .before .before .before .before .before .before .before .before .route-for .ensures,
       c .before .before .before .before .before .before .before .before .before .before .before .movement-under .ensures,
       c .before .before .before .before .before .before .before .before .before .before .before .before .work-of .ensures,
     )
@@ -26,7 +25,6 @@ pub clearance-spec : {M : Type 1} → statement M
 clearance-spec =
     tie.close
     (tie.spec
-    (λ c κs. search needs)
     (λ c κs. search needs)
     (λ c κs. search needs)
     (λ c κs. search needs)

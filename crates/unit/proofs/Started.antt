@@ -11,13 +11,22 @@ use Rattle.message.specs.declared.Message.{Message}
 use Rattle.message.specs.Record.{accepted, refused, readRecord}
 use Rattle.message.proofs.RoundTrips.{refused-by}
 use Rattle.station.specs.declared.Station.{Station}
+use Rattle.sheet.specs.declared.Sheet.{Sheet}
 use Rattle.sheet.specs.Sheet.{readSheet}
 use Rattle.zone.specs.declared.Answer.{Answer}
 use Rattle.desk.specs.Desk.{zoneAt, refusedBy, putBack, appliedRecord, zonePlace, zoneHears}
 use Rattle.desk.proofs.InPlace.{reached-in-place}
 use Rattle.desk_bytes.specs.Encoding.{deskIn, isDesk, storedZone}
 use Rattle.desk_bytes.proofs.ZonePlaces.{zone-stored}
-use Rattle.unit.specs.Unit.{started, stored}
+use Rattle.unit.specs.Unit.{startNumber, started, stored}
+
+-- what the two calls at the start of a record or a question have answered
+pub started-by :
+    (sheet desk : List ℕ) {read : Sheet} {code : ℕ} → read ≡ readSheet sheet
+    → code ≡ startNumber (read .code) desk
+    → started sheet desk ≡ record { code = code; index = read .index; station = read .station }
+unfolding started
+started-by sheet desk as-read as-told = rw (as-told, as-read)
 
 pub started-desk : (sheet desk : List ℕ) → started sheet desk .code ≡ 0 → isDesk desk ≡ true
 unfolding started

@@ -4,12 +4,11 @@
 // proofs/Demand3.antt that demand 3 holds of them.
 ghost use mathlib.Core.Path.{_≡_};
 ghost use Rattle.packed.specs.Packed.{movementPacked, workPacked};
-ghost use Rattle.unit.specs.Unit.{unitFresh, startNumber, started, unitApplied, unitMovement, unitWork};
+ghost use Rattle.unit.specs.Unit.{unitFresh, startNumber, unitApplied, unitMovement, unitWork};
 use desk::Desk;
 use desk::MovementAnswer;
 use desk::WorkAnswer;
 use message::Reading;
-use sheet::Sheet;
 
 // The number that refuses bytes that no desk encodes to.
 pub const NOT_A_DESK: u8 = 61;
@@ -39,32 +38,24 @@ fn start_code(code: u8, desk: &[u8]) -> u8
     0
 }
 
-// The sheet as it was read, with the number that refuses it or the desk's bytes: what a record or a question starts from.
-fn read_start(sheet: &[u8], desk: &[u8]) -> Sheet
-    ensures { λ r. ⌜ r ≡ started (now (sheet .entry)) (now (desk .entry)) ⌝ }
-{
-    let mut read = sheet::read_sheet(sheet);
-    read.code = start_code(read.code, desk);
-    read
-}
-
 // Hears a record; where it is accepted, stores its zone then and the minutes. Refused by the sheet's number, by 61, then as the desk
 // refuses the record.
 #[no_mangle]
 pub extern "C" fn unit_apply(sheet: &[u8], desk: &mut [u8], record: &[u8], minutes: &mut u32) -> u8
     ensures { λ r. ⌜ record { code = r; bytes = now (desk .exit); minutes = now (minutes .exit) } ≡ unitApplied (now (sheet .entry)) (now (desk .entry)) (now («record» .entry)) (now (minutes .entry)) ⌝ }
 {
-    let at = read_start(sheet, desk);
-    if at.code != 0 {
-        return at.code;
+    let read = sheet::read_sheet(sheet);
+    let start = start_code(read.code, desk);
+    if start != 0 {
+        return start;
     }
     let reading = message::read_record(record);
     let Reading::Accepted(m) = reading else {
         return message::reading_code(reading);
     };
-    let place = desk::zone_place(at.station, m);
+    let place = desk::zone_place(read.station, m);
     let z = desk_bytes::zone_at(desk, place);
-    let a = desk::zone_hears(at.station, z, m);
+    let a = desk::zone_hears(read.station, z, m);
     if a.code != 0 {
         return a.code;
     }
@@ -76,11 +67,12 @@ pub extern "C" fn unit_apply(sheet: &[u8], desk: &mut [u8], record: &[u8], minut
 fn movement(sheet: &[u8], desk: &[u8], zone: u8, train: u32) -> MovementAnswer
     ensures { λ r. ⌜ r ≡ unitMovement (now (sheet .entry)) (now (desk .entry)) zone train ⌝ }
 {
-    let at = read_start(sheet, desk);
-    if at.code != 0 {
-        return desk::movement_refused(at.code);
+    let read = sheet::read_sheet(sheet);
+    let start = start_code(read.code, desk);
+    if start != 0 {
+        return desk::movement_refused(start);
     }
-    desk::query_movement(at.station, desk_bytes::decode(desk), zone, train)
+    desk::query_movement(read.station, desk_bytes::decode(desk), zone, train)
 }
 
 // The movement question: the code, the regime, the lowest turnout lacking a clearance, how many lack one, a byte each.
@@ -94,14 +86,15 @@ pub extern "C" fn unit_movement(sheet: &[u8], desk: &[u8], zone: u8, train: u32)
 fn work(sheet: &[u8], desk: &[u8], turnout: u8) -> WorkAnswer
     ensures { λ r. ⌜ r ≡ unitWork (now (sheet .entry)) (now (desk .entry)) turnout ⌝ }
 {
-    let at = read_start(sheet, desk);
-    if at.code != 0 {
+    let read = sheet::read_sheet(sheet);
+    let start = start_code(read.code, desk);
+    if start != 0 {
         return WorkAnswer {
-            code: at.code,
+            code: start,
             yes: false,
         };
     }
-    desk::query_work(at.station, desk_bytes::decode(desk), turnout)
+    desk::query_work(read.station, desk_bytes::decode(desk), turnout)
 }
 
 // The work question: the code, and 256 if the turnout is open to work.

@@ -6,7 +6,13 @@ use Rattle.message.specs.Record.{accepted, refused, readingOf, readRecord}
 use Rattle.message.proofs.RoundTrips.{refused-by}
 use Rattle.sheet.specs.declared.Sheet.{Sheet}
 use Rattle.unit.specs.Unit.{stored, unitApplied}
-use Rattle.unit.proofs.Started.{started-desk, record-heard, record-refused, zone-answered}
+use Rattle.unit.proofs.Started.{
+  started-by,
+  started-desk,
+  record-heard,
+  record-refused,
+  zone-answered,
+}
 use borrow.Author.Needs.{needs}
 use Rattle.unit.proofs.unit_apply.Statement.{statement}
 use Rattle.unit.proofs.unit_apply.Tie as tie
@@ -14,43 +20,60 @@ use Rattle.unit.proofs.unit_apply.Tie as tie
 returns : tie.Need-returns
 unfolding unitApplied
 returns c =
-    let at = c .before .before .read-start in
-    rw (← at .ensures, ne-eqb (at .result .code) 0 (c .if1 .taken))
+    let a = c .before .before .before .before .before .before .before .args in
+    let read = c .before .before .before .read-sheet in
+    let start = c .before .start-code in
+    let at = started-by (now (a .sheet)) (now (a .desk)) (read .ensures) (start .ensures) in
+    rw (at, ne-eqb (start .result) 0 (c .if1 .taken))
 
 returns-2 : tie.Need-returns-2
 unfolding unitApplied stored
 returns-2 c =
-    let a = c .before .before .before .before .before .before .before .before .before .before .before .args in
+    let taken-in = c .before .before .before in
+    let begun = taken-in .before .before in
+    let a = begun .before .before .before .before .before .before .args in
+    let read = begun .before .before .read-sheet in
+    let start = begun .start-code in
+    let at = started-by (now (a .sheet)) (now (a .desk)) (read .ensures) (start .ensures) in
+    let good = taken-in .before .if1 .left in
     let r = now (a .«record») in
-    let at = c .before .before .before .before .before .before .read-start in
     let told = c .before .enum-told .given in
     let number = told .0 .0 in
-    let answer : refused number ≡ readRecord r = sym (ap readingOf (told .1)) ∙ c .before .before .before .read-record .ensures in
+    let answer : refused number ≡ readRecord r =
+    sym (ap readingOf (told .1)) ∙ taken-in .read-record .ensures in
     rw (
       c .reading-code .ensures,
       told .1,
-      ← at .ensures,
-      eq-eqb (at .result .code) 0 (c .before .before .before .before .if1 .left),
-      record-refused (at .result .station) (now (a .desk)) r number answer,
+      at,
+      eq-eqb (start .result) 0 good,
+      record-refused (read .result .station) (now (a .desk)) r number answer,
       ne-eqb number 0 (refused-by r number answer),
     )
 
 returns-3 : tie.Need-returns-3
 unfolding unitApplied stored
 returns-3 c =
-    let a = c .before .before .before .before .before .before .before .before .before .before .before .before .before .before .before .before .before .args in
-    let at = c .before .before .before .before .before .before .before .before .before .before .before .before .read-start in
-    let told = c .before .before .before .before .before .before .before .reading .given in
+    let heard = c .before .before in
+    let taken-in = heard .before .before .before .before .before .before .before in
+    let begun = taken-in .before .before in
+    let a = begun .before .before .before .before .before .before .args in
+    let read = begun .before .before .read-sheet in
+    let start = begun .start-code in
+    let at = started-by (now (a .sheet)) (now (a .desk)) (read .ensures) (start .ensures) in
+    let good = taken-in .before .if1 .left in
+    let s = now (a .desk) in
+    let r = now (a .«record») in
+    let told = heard .before .before .before .before .before .reading .given in
     let m = told .0 .0 in
-    let read : accepted m ≡ readRecord (now (a .«record»)) =
-    sym (ap readingOf (told .1)) ∙ c .before .before .before .before .before .before .before .before .before .read-record .ensures in
-    let place = c .before .before .before .before .before .zone-place in
-    let zone = c .before .before .before .zone-at in
-    let answer = c .before .before .zone-hears in
+    let reads : accepted m ≡ readRecord r =
+    sym (ap readingOf (told .1)) ∙ taken-in .read-record .ensures in
+    let place = heard .before .before .before .zone-place in
+    let zone = heard .before .zone-at in
+    let answer = heard .zone-hears in
     rw (
-      ← at .ensures,
-      eq-eqb (at .result .code) 0 (c .before .before .before .before .before .before .before .before .before .before .if1 .left),
-      record-heard (at .result .station) (now (a .desk)) (now (a .«record»)) m read,
+      at,
+      eq-eqb (start .result) 0 good,
+      record-heard (read .result .station) s r m reads,
       ← place .ensures .0,
       ← zone .ensures,
       ← answer .ensures,
@@ -60,34 +83,43 @@ returns-3 c =
 returns-4 : tie.Need-returns-4
 unfolding unitApplied
 returns-4 c =
-    let a = c .before .before .before .before .before .before .before .before .before .before .before .before .before .before .before .before .before .before .before .before .before .args in
+    let heard = c .before .before .before .before .before .before in
+    let taken-in = heard .before .before .before .before .before .before .before in
+    let begun = taken-in .before .before in
+    let a = begun .before .before .before .before .before .before .args in
+    let read = begun .before .before .read-sheet in
+    let start = begun .start-code in
+    let at = started-by (now (a .sheet)) (now (a .desk)) (read .ensures) (start .ensures) in
+    let good = taken-in .before .if1 .left in
     let s = now (a .desk) in
-    let at = c .before .before .before .before .before .before .before .before .before .before .before .before .before .before .before .before .read-start in
-    let code = c .before .before .before .before .before .before .before .before .before .before .before .before .before .before .if1 .left in
-    let told = c .before .before .before .before .before .before .before .before .before .before .before .reading .given in
+    let r = now (a .«record») in
+    let told = heard .before .before .before .before .before .reading .given in
     let m = told .0 .0 in
-    let read : accepted m ≡ readRecord (now (a .«record»)) =
-    sym (ap readingOf (told .1)) ∙ c .before .before .before .before .before .before .before .before .before .before .before .before .before .read-record .ensures in
-    let place = c .before .before .before .before .before .before .before .before .before .zone-place in
-    let zone = c .before .before .before .before .before .before .before .zone-at in
-    let answer = c .before .before .before .before .before .before .zone-hears in
-    let is-desk = started-desk (now (a .sheet)) s (sym (ap (λ (x : Sheet). x .code) (at .ensures)) ∙ code) in
-    let taken = c .before .before .before .before .if2 .left in
+    let reads : accepted m ≡ readRecord r =
+    sym (ap readingOf (told .1)) ∙ taken-in .read-record .ensures in
+    let place = heard .before .before .before .zone-place in
+    let zone = heard .before .zone-at in
+    let answer = heard .zone-hears in
+    let is-desk = started-desk (now (a .sheet)) s (ap (λ (x : Sheet). x .code) at ∙ good) in
+    let accepts = c .before .before .before .before .if2 .left in
+    let minutes = now (a .minutes) in
+    let below = place .ensures .1 in
     rw (
       c .before .before .put-zone-at .ensures,
-      ← at .ensures,
-      eq-eqb (at .result .code) 0 code,
-      record-heard (at .result .station) s (now (a .«record»)) m read,
+      at,
+      eq-eqb (start .result) 0 good,
+      record-heard (read .result .station) s r m reads,
       ← place .ensures .0,
       ← zone .ensures,
       ← answer .ensures,
     )
-    (sym (zone-answered s (now (a .minutes)) (place .result) (answer .result) is-desk (place .ensures .1) taken))
+    (sym (zone-answered s minutes (place .result) (answer .result) is-desk below accepts))
 
 pub unit-apply-spec : {M : Type 1} → statement M
 unit-apply-spec =
     tie.close
     (tie.spec
+    (λ c κs. search needs)
     (λ c κs. search needs)
     (λ c. search needs)
     returns

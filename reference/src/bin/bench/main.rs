@@ -11,7 +11,10 @@ use std::hint::black_box;
 use std::time::Instant;
 
 /// Rounds in which each call is timed once.
-const ROUNDS: usize = 400;
+const ROUNDS: usize = 800;
+
+/// Rounds before these, not timed: a processor that was idle takes some time to reach its speed.
+const WARMING: usize = 400;
 
 /// Two calls that do the same work, and how many units of it.
 struct Pair<'a> {
@@ -29,6 +32,10 @@ fn nanoseconds(call: &mut dyn FnMut()) -> u128 {
 
 /// The least time of each call over all rounds.
 fn least(pair: &mut Pair) -> (u128, u128) {
+    for _ in 0..WARMING {
+        (pair.library)();
+        (pair.reference)();
+    }
     let mut best = (u128::MAX, u128::MAX);
     for _ in 0..ROUNDS {
         best.0 = best.0.min(nanoseconds(&mut pair.library));

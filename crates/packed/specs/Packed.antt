@@ -7,6 +7,10 @@ use Rattle.zone.specs.declared.Regime.the-variants.{Held, Clear, Danger}
 use Rattle.desk.specs.declared.MovementAnswer.{MovementAnswer}
 use Rattle.desk.specs.declared.WorkAnswer.{WorkAnswer}
 
+-- the answer to a record: the code, the minutes above it
+abbrev pub answerPacked : ℕ → ℕ → ℕ
+answerPacked code minutes = code + 256 * minutes
+
 -- held, clear, danger
 abbrev pub regimeNumber : Regime → ℕ
 regimeNumber Held = 0

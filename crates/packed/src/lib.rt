@@ -1,9 +1,17 @@
-// The answers to the two questions packed in one number each, for callers in C or Rust. The packing is in specs/Packed.antt.
+// The answer to a record and those to the two questions, packed in one number each, for callers in C or Rust. The packing is in
+// specs/Packed.antt; that every value comes back, in specs/Unpacked.antt and proofs/Unpacked.antt.
 ghost use mathlib.Core.Path.{_≡_};
-ghost use Rattle.packed.specs.Packed.{regimeNumber, movementPacked, workPacked};
+ghost use Rattle.packed.specs.Packed.{answerPacked, regimeNumber, movementPacked, workPacked};
 use desk::MovementAnswer;
 use desk::WorkAnswer;
 use zone::Regime;
+
+// The answer to a record: the code in the lowest byte, the minutes above it.
+pub fn answer_packed(code: u8, minutes: u32) -> u64
+    ensures { λ r. ⌜ r ≡ answerPacked code minutes ⌝ }
+{
+    (code as u64) + 256 * (minutes as u64)
+}
 
 // The number of a regime: 0 held, 1 clear, 2 danger.
 fn regime_number(regime: Regime) -> u8

@@ -225,14 +225,15 @@ uint8_t desk_journal_add(uint8_t *journal, size_t journal_len, const uint8_t *re
 uint8_t unit_fresh(uint8_t *desk, size_t desk_len);
 
 /*
- * Hears a record (32 bytes). If accepted, the desk (520 bytes) is written as it then stands, and the minutes: those from the agreement
- * to an accepted kind 11, else 0. If refused, desk and minutes stay as they were. Codes: 0, the sheet's, 61, 10 to 22. `minutes` points to
- * one number of the machine's own kind, is not NULL, and lies in none of the buffers.
- * Records heard one by one from a fresh desk, the minutes set to 0 before each, get the codes and minutes that desk_replay gives for their
- * journal.
+ * Hears a record (32 bytes). If accepted, the desk (520 bytes) is written as it then stands; if refused, it stays as it was. Codes: 0, the
+ * sheet's, 61, 10 to 22. Back come the code and the minutes: those from the agreement to an accepted kind 11, else 0.
+ * Records heard one by one from a fresh desk get the codes and minutes that desk_replay gives for their journal.
  */
-uint8_t unit_apply(const uint8_t *sheet, size_t sheet_len, uint8_t *desk, size_t desk_len, const uint8_t *record,
-                   size_t record_len, uint32_t *minutes);
+uint64_t unit_apply(const uint8_t *sheet, size_t sheet_len, uint8_t *desk, size_t desk_len, const uint8_t *record,
+                    size_t record_len);
+
+/* Of the answers of unit_apply. */
+static inline uint32_t desk_minutes(uint64_t answer) { return (uint32_t)(answer >> 8); }
 
 /* The movement question of a desk, packed as by desk_movement. Codes: 0, the sheet's, 61, 12, 15. */
 uint64_t unit_movement(const uint8_t *sheet, size_t sheet_len, const uint8_t *desk, size_t desk_len, uint8_t zone,

@@ -38,13 +38,12 @@ static size_t read_file(const char *folder, const char *name, uint8_t *buffer, s
     return length;
 }
 
-/* Hears record n and prints its line. A refusal leaves the minutes, so they begin as 0. */
+/* Hears record n and prints its line. */
 static void hear(size_t sheet_len, size_t journal_len, uint32_t n)
 {
     size_t place = desk_record_place(desk_journal_record(journal, journal_len, n));
-    uint32_t minutes = 0;
-    unsigned code = unit_apply(sheet, sheet_len, desk, sizeof desk, journal + place, DESK_RECORD_BYTES, &minutes);
-    printf("%lu %u %lu\n", (unsigned long)n + 1, code, (unsigned long)minutes);
+    uint64_t answer = unit_apply(sheet, sheet_len, desk, sizeof desk, journal + place, DESK_RECORD_BYTES);
+    printf("%lu %u %lu\n", (unsigned long)n + 1, (unsigned)desk_code(answer), (unsigned long)desk_minutes(answer));
 }
 
 /* Both questions, for turnout 0 and for train 512 in zone 0. */

@@ -58,8 +58,7 @@ mod c {
             desk_len: usize,
             record: *const u8,
             record_len: usize,
-            minutes: *mut u32,
-        ) -> u8;
+        ) -> u64;
         pub fn unit_movement(
             sheet: *const u8,
             sheet_len: usize,
@@ -140,7 +139,8 @@ pub fn unit_fresh(desk: &mut [u8]) -> u8 {
     unsafe { c::unit_fresh(desk.as_mut_ptr(), desk.len()) }
 }
 
-pub fn unit_apply(sheet: &[u8], desk: &mut [u8], record: &[u8], minutes: &mut u32) -> u8 {
+/// The code in the lowest byte, the minutes above it.
+pub fn unit_apply(sheet: &[u8], desk: &mut [u8], record: &[u8]) -> u64 {
     unsafe {
         c::unit_apply(
             sheet.as_ptr(),
@@ -149,7 +149,6 @@ pub fn unit_apply(sheet: &[u8], desk: &mut [u8], record: &[u8], minutes: &mut u3
             desk.len(),
             record.as_ptr(),
             record.len(),
-            minutes,
         )
     }
 }

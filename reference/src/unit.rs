@@ -141,26 +141,25 @@ pub fn fresh(bytes: &mut [u8]) -> u8 {
     0
 }
 
-/// Hears a record: the sheet's number, 61, or the desk's answer. A refusal leaves bytes and minutes as they were.
-pub fn apply(sheet: &[u8], bytes: &mut [u8], record: &[u8], minutes: &mut u32) -> u8 {
+/// Hears a record: the sheet's number, 61, or the desk's answer; the minutes. A refusal leaves the bytes and has no minutes.
+pub fn apply(sheet: &[u8], bytes: &mut [u8], record: &[u8]) -> (u8, u32) {
     match sheet::read(sheet) {
-        Ok(station) => apply_at(&station, bytes, record, minutes),
-        Err(fault) => fault.number(),
+        Ok(station) => apply_at(&station, bytes, record),
+        Err(fault) => (fault.number(), 0),
     }
 }
 
 /// The same, of a station that was read before.
-pub fn apply_at(station: &Station, bytes: &mut [u8], record: &[u8], minutes: &mut u32) -> u8 {
+pub fn apply_at(station: &Station, bytes: &mut [u8], record: &[u8]) -> (u8, u32) {
     let Some(mut desk) = decode(station, bytes) else {
-        return NOT_A_DESK;
+        return (NOT_A_DESK, 0);
     };
     match desk.hear_record(record) {
-        Ok(counted) => {
+        Ok(minutes) => {
             bytes.copy_from_slice(&encode(&desk));
-            *minutes = counted;
-            0
+            (0, minutes)
         }
-        Err(refusal) => refusal.number(),
+        Err(refusal) => (refusal.number(), 0),
     }
 }
 

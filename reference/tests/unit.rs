@@ -20,7 +20,7 @@ fn fresh() -> [u8; DESK] {
 fn after(records: usize) -> [u8; DESK] {
     let (sheet, mut bytes) = (station_k().bytes(), fresh());
     for message in journal_k().iter().take(records) {
-        unit::apply(&sheet, &mut bytes, &message.to_bytes(), &mut 0);
+        unit::apply(&sheet, &mut bytes, &message.to_bytes());
     }
     bytes
 }
@@ -40,12 +40,12 @@ fn station_k_record_by_record() {
     let (sheet, mut bytes) = (station_k().bytes(), fresh());
     let mut answers = Vec::new();
     for message in journal_k() {
-        let (before, mut minutes) = (bytes, 77);
-        let code = unit::apply(&sheet, &mut bytes, &message.to_bytes(), &mut minutes);
-        assert!(code == 0 || (bytes, minutes) == (before, 77));
+        let before = bytes;
+        let (code, minutes) = unit::apply(&sheet, &mut bytes, &message.to_bytes());
+        assert!(code == 0 || bytes == before);
         answers.push((code, minutes));
     }
-    let refused = |code| (code, 77);
+    let refused = |code| (code, 0);
     let expected =
         [(0, 0), (0, 0), (0, 0), (0, 0), refused(22), (0, 0), refused(22), (0, 0), refused(19), (0, 0), (0, 1)];
     assert_eq!(answers, expected);
@@ -95,10 +95,10 @@ fn no_desk() {
         changed(72 + 48, 1),
     ];
     for mut bytes in no_desks {
-        let (before, mut minutes) = (bytes.clone(), 77);
+        let before = bytes.clone();
         let record = agreed(7).to_bytes();
-        assert_eq!(unit::apply(&station_k().bytes(), &mut bytes, &record, &mut minutes), 61);
-        assert_eq!((&bytes, minutes), (&before, 77));
+        assert_eq!(unit::apply(&station_k().bytes(), &mut bytes, &record), (61, 0));
+        assert_eq!(bytes, before);
         assert_eq!(unit::movement_at(&station(), &bytes, 0, 512), [61, 0, 255, 0]);
         assert_eq!(unit::work_at(&station(), &bytes, 0), [61, 0]);
     }
@@ -108,7 +108,7 @@ fn no_desk() {
 #[test]
 fn order_of_refusals() {
     let (good, short) = (station_k().bytes(), &station_k().bytes()[..49]);
-    let apply = |sheet: &[u8], desk: &mut [u8]| unit::apply(sheet, desk, &[], &mut 0);
+    let apply = |sheet: &[u8], desk: &mut [u8]| unit::apply(sheet, desk, &[]).0;
     assert_eq!(apply(short, &mut []), 1);
     assert_eq!(apply(&good, &mut []), 61);
     assert_eq!(apply(&good, &mut fresh()), 10);

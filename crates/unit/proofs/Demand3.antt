@@ -1,5 +1,4 @@
--- Demand 3 of the unit: what holds after every list of records that a unit has heard one by one, the minutes 0 before each call, on every
--- sheet that is accepted. It is demand 3 of the desk, which the unit follows.
+-- Demand 3 of the unit: what holds after every list of records that a unit has heard one by one, on every sheet that is accepted. It is demand 3 of the desk, which the unit follows.
 use mathlib.Core.Path.{_≡_, sym, ap, _∙_}
 use Rattle.sheet.specs.Sheet.{readSheet}
 use Rattle.desk.specs.Desk.{freshDesk}

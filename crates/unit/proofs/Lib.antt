@@ -3,3 +3,4 @@ pub mod Typed
 pub mod Follows
 pub mod OneByOne
 pub mod Demand3
+pub mod Calls

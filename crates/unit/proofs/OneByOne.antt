@@ -1,5 +1,5 @@
 -- The law of the unit, proved: it hears records as the desk of the contracts does, so records heard one by one get what replaying them as a
--- journal gives. The minutes are 0 before each call; `any-minutes` says what others change.
+-- journal gives.
 use mathlib.Core.Path.{_≡_, refl, sym, ap}
 use mathlib.Core.Bool.{Bool, true, false, cond}
 use mathlib.Core.List.{List, [], _∷_, map}
@@ -30,24 +30,24 @@ use Rattle.unit.proofs.Follows.{Follows, good-after, after-same, answer
 -- what a unit stores of a desk's answer is that answer, as bytes, also where the record is refused: then nothing has changed
 stored-as : (st : Station) (d : Desk) (r : List ℕ)
     → let a = appliedRecord st d r in
-    stored (deskBytes d) 0 a ≡ record { code = a .code; bytes = deskBytes (a .desk); minutes = a .minutes }
+    stored (deskBytes d) a ≡ record { code = a .code; minutes = a .minutes; bytes = deskBytes (a .desk) }
 unfolding stored
 stored-as st d r = go (eqb (appliedRecord st d r .code) 0) refl
   where
     go : (b : Bool) → eqb (appliedRecord st d r .code) 0 ≡ b
         → let a = appliedRecord st d r in
-        stored (deskBytes d) 0 a ≡ record { code = a .code; bytes = deskBytes (a .desk); minutes = a .minutes }
+        stored (deskBytes d) a ≡ record { code = a .code; minutes = a .minutes; bytes = deskBytes (a .desk) }
     go true p = rw (p, eqb-true (appliedRecord st d r .code) 0 p)
     go false p =
         let same = hear-refused st d (bytes r) p in
         let told : Heard Desk → UnitAnswer =
-        λ h. record { code = h .reply .code; bytes = deskBytes (h .state); minutes = h .reply .minutes } in
+        λ h. record { code = h .reply .code; minutes = h .reply .minutes; bytes = deskBytes (h .state) } in
         rw p (sym (ap told same))
 
 -- a unit of an accepted sheet, whose bytes are a desk's, hears a record as that desk does
 pub hears-as : (sheet : List ℕ) → readSheet sheet .code ≡ 0 → (d : Desk) → TypedDesk d → (r : List ℕ)
     → let a = appliedRecord (readSheet sheet .station) d r in
-    unitApplied sheet (deskBytes d) r 0 ≡ record { code = a .code; bytes = deskBytes (a .desk); minutes = a .minutes }
+    unitApplied sheet (deskBytes d) r ≡ record { code = a .code; minutes = a .minutes; bytes = deskBytes (a .desk) }
 unfolding unitApplied started
 hears-as sheet good d fits r =
     rw (eq-eqb (readSheet sheet .code) 0 good, encoded-is-desk d fits, decoded-encoded d fits)
@@ -61,7 +61,7 @@ follows sheet good = record { shown = deskBytes; Good = TypedDesk; step = step; 
     st = readSheet sheet .station
 
     step : (d : Desk) → TypedDesk d → (i : Input) → IsRecord i
-        → leaves (unitApplied sheet (deskBytes d) (recordOf i) 0) ≡ record { reply = hears st d i .reply; state = deskBytes (hears st d i .state) }
+        → leaves (unitApplied sheet (deskBytes d) (recordOf i)) ≡ record { reply = hears st d i .reply; state = deskBytes (hears st d i .state) }
     step d fits (message m) record-it = absurd record-it
     step d fits (bytes s) byte = ap leaves (hears-as sheet good d fits s)
 
@@ -128,23 +128,6 @@ one-by-one sheet journal byte good whole =
       movement = λ zone train. rw (accepted, journal-good, last) (movement-asked sheet good d fits zone train);
       work = λ turnout. rw (accepted, journal-good, last) (work-asked sheet good d fits turnout);
     }
-
--- minutes that are not 0 before a call change neither its code nor the bytes, and stay where the record is refused
-pub any-minutes : (sheet desk r : List ℕ) (minutes : ℕ)
-    → let a = unitApplied sheet desk r 0 in
-    unitApplied sheet desk r minutes ≡ record { code = a .code; bytes = a .bytes; minutes = cond (eqb (a .code) 0) (a .minutes) minutes }
-unfolding unitApplied stored
-any-minutes sheet desk r minutes =
-    let at = started sheet desk in
-    go (eqb (at .code) 0) refl (eqb (appliedRecord (at .station) (deskIn desk) r .code) 0) refl
-  where
-    go : (good : Bool) → eqb (started sheet desk .code) 0 ≡ good
-        → (taken : Bool) → eqb (appliedRecord (started sheet desk .station) (deskIn desk) r .code) 0 ≡ taken
-        → let a = unitApplied sheet desk r 0 in
-        unitApplied sheet desk r minutes ≡ record { code = a .code; bytes = a .bytes; minutes = cond (eqb (a .code) 0) (a .minutes) minutes }
-    go true p true q = rw (p, q)
-    go true p false q = rw (p, q, q)
-    go false p taken q = rw (p, p)
 
 -- the bytes that a unit starts from
 pub starts-fresh : (buffer : List ℕ) → length buffer ≡ 520 → unitFresh buffer .bytes ≡ deskBytes freshDesk

@@ -54,7 +54,7 @@ record-refused st s r number read = rw (← read, ne-eqb number 0 (refused-by r 
 
 -- an accepted answer of the zone in place k, stored
 pub zone-answered :
-    (s : List ℕ) (minutes k : ℕ) (a : Answer) → isDesk s ≡ true → k < 8 → a .code ≡ 0
-    → stored s minutes (putBack (deskIn s) k a) ≡ record { code = 0; bytes = storedZone s k (a .zone); minutes = a .minutes }
+    (s : List ℕ) (k : ℕ) (a : Answer) → isDesk s ≡ true → k < 8 → a .code ≡ 0
+    → stored s (putBack (deskIn s) k a) ≡ record { code = 0; minutes = a .minutes; bytes = storedZone s k (a .zone) }
 unfolding stored
-zone-answered s minutes k a told below zero = rw (eq-eqb (a .code) 0 zero, zone-stored s k (a .zone) told below)
+zone-answered s k a told below zero = rw (eq-eqb (a .code) 0 zero, zone-stored s k (a .zone) told below)

@@ -1,2 +1,3 @@
 pub mod Unit
 pub mod OneByOne
+pub mod Calls

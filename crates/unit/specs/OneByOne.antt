@@ -27,13 +27,12 @@ abbrev pub recordOf : Input → List ℕ
 recordOf (message m) = encoded m
 recordOf (bytes s) = s
 
--- the unit of a sheet: it starts from the fresh desk's bytes, each record is heard by the bytes that the one before left, and the minutes
--- are 0 before each call
+-- the unit of a sheet: it starts from the fresh desk's bytes, and each record is heard by the bytes that the one before left
 abbrev pub unitOf : List ℕ → Model
 unitOf sheet = record {
   State = List ℕ;
   fresh = deskBytes freshDesk;
-  hear = λ st s i. leaves (unitApplied sheet s (recordOf i) 0);
+  hear = λ st s i. leaves (unitApplied sheet s (recordOf i));
   movement = λ st s zone train. unitMovement sheet s zone train;
   work = λ st s turnout. unitWork sheet s turnout;
 }

@@ -1,6 +1,6 @@
 -- A unit: a desk kept in 520 bytes that the caller lends at each call. A record or a question is refused by the sheet's number, then by
 -- 61 for bytes that no desk encodes to (also bytes of another length), then as the desk refuses it; a fresh desk by 61 for a buffer of
--- another length. A refusal leaves the bytes and the minutes as they were.
+-- another length. A refusal leaves the bytes as they were, and has 0 minutes.
 use mathlib.Core.Bool.{cond, false}
 use mathlib.Core.List.{List}
 use Prim.Native.Nat.{ℕ}
@@ -15,6 +15,7 @@ use Rattle.desk.specs.declared.WorkAnswer.{WorkAnswer}
 use Rattle.desk.specs.Desk.{freshDesk, appliedRecord}
 use Rattle.desk.specs.Questions.{movementRefused, movementAnswered, workAnswered}
 use Rattle.desk_bytes.specs.Encoding.{deskBytes, deskIn, isDesk}
+use Rattle.packed.specs.Packed.{answerPacked}
 
 -- the fresh desk in a buffer of its length
 unfoldable pub unitFresh : List ℕ → WriteAnswer
@@ -33,25 +34,36 @@ started sheet desk = record {
   station = readSheet sheet .station;
 }
 
--- what hearing a record leaves: the code, the desk's bytes, the minutes
+-- what hearing a record gives and leaves: the code, the minutes, the desk's bytes
 pub record UnitAnswer : Type 0 where
   pub code : ℕ
-  pub bytes : List ℕ
   pub minutes : ℕ
+  pub bytes : List ℕ
+
+-- a refusal: "every other answer has 0" minutes
+abbrev pub refusedUnit : List ℕ → ℕ → UnitAnswer
+refusedUnit desk number = record { code = number; minutes = 0; bytes = desk }
 
 -- the answer of the desk, stored where it accepts
-unfoldable pub stored : List ℕ → ℕ → Applied → UnitAnswer
-stored desk minutes a =
+unfoldable pub stored : List ℕ → Applied → UnitAnswer
+stored desk a =
     cond (eqb (a .code) 0)
-    (record { code = 0; bytes = deskBytes (a .desk); minutes = a .minutes })
-    (record { code = a .code; bytes = desk; minutes = minutes })
+    (record { code = 0; minutes = a .minutes; bytes = deskBytes (a .desk) })
+    (refusedUnit desk (a .code))
 
 -- a record heard by the unit
-unfoldable pub unitApplied : List ℕ → List ℕ → List ℕ → ℕ → UnitAnswer
-unitApplied sheet desk bytes minutes =
+unfoldable pub unitApplied : List ℕ → List ℕ → List ℕ → UnitAnswer
+unitApplied sheet desk bytes =
     let at = started sheet desk in
-    cond (eqb (at .code) 0) (stored desk minutes (appliedRecord (at .station) (deskIn desk) bytes))
-    (record { code = at .code; bytes = desk; minutes = minutes })
+    cond (eqb (at .code) 0) (stored desk (appliedRecord (at .station) (deskIn desk) bytes)) (refusedUnit desk (at .code))
+
+-- the same as the call gives it: the code and the minutes in one number, and the desk's bytes
+pub record UnitCall : Type 0 where
+  pub answer : ℕ
+  pub bytes : List ℕ
+
+abbrev pub called : UnitAnswer → UnitCall
+called a = record { answer = answerPacked (a .code) (a .minutes); bytes = a .bytes }
 
 -- the two questions; a refusal has the values of the desk's refusal
 unfoldable pub unitMovement : List ℕ → List ℕ → ℕ → ℕ → MovementAnswer

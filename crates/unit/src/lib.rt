@@ -1,10 +1,10 @@
 // The unit: a desk kept in 520 bytes by the caller, for firmware in C or Rust that hears one record at a time. A byte slice goes as a
 // pointer and a length. The rules are in specs/Unit.antt, the desk's bytes in the crate `desk_bytes`. Every function takes any bytes and
-// any numbers. proofs/OneByOne.antt has that records heard one by one, the minutes 0 before each call, get what replaying them gives,
-// proofs/Demand3.antt that demand 3 holds of them.
+// any numbers. proofs/OneByOne.antt has that records heard one by one get what replaying them gives, proofs/Demand3.antt that demand 3
+// holds of them, proofs/Calls.antt that the numbers which the calls return show it.
 ghost use mathlib.Core.Path.{_≡_};
 ghost use Rattle.packed.specs.Packed.{movementPacked, workPacked};
-ghost use Rattle.unit.specs.Unit.{unitFresh, startNumber, unitApplied, unitMovement, unitWork};
+ghost use Rattle.unit.specs.Unit.{unitFresh, startNumber, unitApplied, called, unitMovement, unitWork};
 use desk::Desk;
 use desk::MovementAnswer;
 use desk::WorkAnswer;
@@ -12,6 +12,19 @@ use message::Reading;
 
 // The number that refuses bytes that no desk encodes to.
 pub const NOT_A_DESK: u8 = 61;
+
+// The answer to a record.
+pub struct Reply {
+    pub code: u8,
+    pub minutes: u32,
+}
+
+// A refusal has no minutes.
+fn refused(code: u8) -> Reply
+    ensures { λ r. ⌜ r ≡ record { code = code; minutes = 0 } ⌝ }
+{
+    Reply { code, minutes: 0 }
+}
 
 // Stores the fresh desk. Refused by 61 for a buffer of another length than a desk's.
 #[no_mangle]
@@ -38,30 +51,39 @@ fn start_code(code: u8, desk: &[u8]) -> u8
     0
 }
 
-// Hears a record; where it is accepted, stores its zone then and the minutes. Refused by the sheet's number, by 61, then as the desk
-// refuses the record.
-#[no_mangle]
-pub extern "C" fn unit_apply(sheet: &[u8], desk: &mut [u8], record: &[u8], minutes: &mut u32) -> u8
-    ensures { λ r. ⌜ record { code = r; bytes = now (desk .exit); minutes = now (minutes .exit) } ≡ unitApplied (now (sheet .entry)) (now (desk .entry)) (now («record» .entry)) (now (minutes .entry)) ⌝ }
+// Hears a record; where it is accepted, stores its zone then. Refused by the sheet's number, by 61, then as the desk refuses the record.
+fn apply(sheet: &[u8], desk: &mut [u8], record: &[u8]) -> Reply
+    ensures { λ r. ⌜ record { code = r .code; minutes = r .minutes; bytes = now (desk .exit) } ≡ unitApplied (now (sheet .entry)) (now (desk .entry)) (now («record» .entry)) ⌝ }
 {
     let read = sheet::read_sheet(sheet);
     let start = start_code(read.code, desk);
     if start != 0 {
-        return start;
+        return refused(start);
     }
     let reading = message::read_record(record);
     let Reading::Accepted(m) = reading else {
-        return message::reading_code(reading);
+        return refused(message::reading_code(reading));
     };
     let place = desk::zone_place(read.station, m);
     let z = desk_bytes::zone_at(desk, place);
     let a = desk::zone_hears(read.station, z, m);
     if a.code != 0 {
-        return a.code;
+        return refused(a.code);
     }
     desk_bytes::put_zone_at(a.zone, desk, place);
-    *minutes = a.minutes;
-    0
+    Reply {
+        code: 0,
+        minutes: a.minutes,
+    }
+}
+
+// Hears a record: the code in the lowest byte, the minutes above it.
+#[no_mangle]
+pub extern "C" fn unit_apply(sheet: &[u8], desk: &mut [u8], record: &[u8]) -> u64
+    ensures { λ r. ⌜ record { answer = r; bytes = now (desk .exit) } ≡ called (unitApplied (now (sheet .entry)) (now (desk .entry)) (now («record» .entry))) ⌝ }
+{
+    let a = apply(sheet, desk, record);
+    packed::answer_packed(a.code, a.minutes)
 }
 
 fn movement(sheet: &[u8], desk: &[u8], zone: u8, train: u32) -> MovementAnswer

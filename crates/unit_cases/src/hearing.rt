@@ -35,20 +35,19 @@ pub fn fresh_tried(desk: &mut [u8], input: &[u8], at: usize) -> usize {
     put_pairs(desk, input, n.next)
 }
 
-// Hears a record; writes the code and the minutes.
-fn heard(sheet: &[u8], desk: &mut [u8], record: &[u8], minutes: u32) {
-    let mut m = minutes;
-    let code = unit::unit_apply(sheet, desk, record, &mut m);
-    write_number(code as u64);
-    write_number(m as u64);
+// Hears a record; writes the code, which is byte 0 of the answer, and the minutes above it.
+fn heard(sheet: &[u8], desk: &mut [u8], record: &[u8]) {
+    let answer = unit::unit_apply(sheet, desk, record);
+    write_number(answer % 256);
+    write_number(answer / 256);
 }
 
 // Hears a record by the first n bytes.
-fn heard_by(sheet: &[u8], desk: &mut [u8], n: usize, record: &[u8], minutes: u32) {
+fn heard_by(sheet: &[u8], desk: &mut [u8], n: usize, record: &[u8]) {
     if desk.len() < n {
         return;
     }
-    heard(sheet, &mut desk[..n], record, minutes);
+    heard(sheet, &mut desk[..n], record);
 }
 
 // Stores record k of the journal, k from 1, at the start of a buffer.
@@ -72,7 +71,7 @@ pub fn record_tried(
     put_record(journal, k.value, &mut record);
     let next = put_pairs(&mut record, input, k.next);
     write_number(k.value as u64);
-    heard_by(first(sheet, SHEET), desk, DESK, &record, 0);
+    heard_by(first(sheet, SHEET), desk, DESK, &record);
     next
 }
 
@@ -82,7 +81,7 @@ fn write_copy(sheet: &[u8], journal: &[u8], desk: &mut [u8], length: usize, k: u
     copy(desk, &mut before);
     let mut record = [0u8; 33];
     put_record(journal, k, &mut record);
-    heard_by(sheet, desk, length, first(&record, n), 77);
+    heard_by(sheet, desk, length, first(&record, n));
     write_same(desk, &before);
 }
 

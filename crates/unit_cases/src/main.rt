@@ -7,10 +7,10 @@
 // empty row ends the input. Any other row starts with a name, which is written, and a number; damage may end it, pairs of a place and the
 // byte that is put there:
 // 1: stores the fresh desk in the first n bytes. Written: the code, and whether the buffer is changed. Then the desk gets the damage.
-// 2: hears record k of the journal, k from 1, with the damage. Written: k, the code, the minutes, which were 0.
+// 2: hears record k of the journal, k from 1, with the damage. Written: k, the code, the minutes.
 // 3: writes n bytes of the desk from a place on.
 // The others take a copy of the desk with the damage. They have the lengths of the sheet and of the desk, and then
-// 4: k and the length of a record, which is heard. Written: the code, the minutes, which were 77, and whether the copy is changed.
+// 4: k and the length of a record, which is heard. Written: the code, the minutes, and whether the copy is changed.
 // 5: zone and train of the movement question. Written: the code, the regime, the lowest turnout, the count.
 // 6: the turnout of the work question. Written: the code, and 1 for yes.
 mod hearing;

@@ -62,11 +62,11 @@ fn replayed<'a>(name: &'a str, sheet: &'a [u8], journal: &'a [u8], records: usiz
 }
 
 /// All records heard one by one, each over the bytes that the one before left, from a fresh desk on.
-fn one_by_one(records: &[[u8; RECORD]], mut apply: impl FnMut(&mut [u8], &[u8], &mut u32) -> u8) -> [u8; DESK] {
-    let (mut desk, mut minutes) = ([0; DESK], 0);
+fn one_by_one(records: &[[u8; RECORD]], mut apply: impl FnMut(&mut [u8], &[u8]) -> u8) -> [u8; DESK] {
+    let mut desk = [0; DESK];
     unit::fresh(&mut desk);
     for record in records {
-        assert_eq!(apply(&mut desk, record, &mut minutes), 0);
+        assert_eq!(apply(&mut desk, record), 0);
     }
     desk
 }
@@ -76,12 +76,12 @@ fn one_by_one(records: &[[u8; RECORD]], mut apply: impl FnMut(&mut [u8], &[u8], 
 fn units<'a>(name: &'a str, sheet: &'a [u8], records: &'a [[u8; RECORD]], sheet_each_time: bool) -> Pair<'a> {
     let station = sheet::read(sheet).expect("a good sheet");
     let by_library = move || {
-        one_by_one(records, |desk, record, minutes| library::unit_apply(black_box(sheet), desk, record, minutes))
+        one_by_one(records, |desk, record| library::unit_apply(black_box(sheet), desk, record) as u8)
     };
     let by_reference = move || {
-        one_by_one(records, |desk, record, minutes| match sheet_each_time {
-            true => unit::apply(black_box(sheet), desk, record, minutes),
-            false => unit::apply_at(black_box(&station), desk, record, minutes),
+        one_by_one(records, |desk, record| match sheet_each_time {
+            true => black_box(unit::apply(black_box(sheet), desk, record)).0,
+            false => black_box(unit::apply_at(black_box(&station), desk, record)).0,
         })
     };
     assert_eq!(by_library(), by_reference());
@@ -110,11 +110,11 @@ fn stacks(sheet: &[u8], journal: &[u8], records: &[[u8; RECORD]]) {
     show_stack("a replay", &mut || {
         black_box(library::replay(sheet, journal, &mut answers));
     });
-    let (mut desk, mut minutes) = ([0; DESK], 0);
+    let mut desk = [0; DESK];
     unit::fresh(&mut desk);
     show_stack("unit_apply", &mut || {
         for record in records {
-            black_box(library::unit_apply(sheet, &mut desk, record, &mut minutes));
+            black_box(library::unit_apply(sheet, &mut desk, record));
         }
     });
 }

@@ -65,18 +65,16 @@ impl Comparison {
         record: &[u8],
     ) -> Result<(u8, Option<u32>), Difference> {
         let before = unit.by_library.clone();
-        let filled = self.rng.next() as u32;
-        let (mut by_library, mut by_reference) = (filled, filled);
-        let library = library::unit_apply(files.sheet, &mut unit.by_library, record, &mut by_library);
-        let reference = unit::apply_at(station, &mut unit.by_reference, record, &mut by_reference);
-        self.tally.unit(reference);
-        let call = || format!("unit_apply(sheet, desk, record, minutes {filled}): desk {before:?}, record {record:?}");
-        files.same(call, (library, by_library), (reference, by_reference))?;
+        let answer = library::unit_apply(files.sheet, &mut unit.by_library, record);
+        let (code, minutes) = unit::apply_at(station, &mut unit.by_reference, record);
+        self.tally.unit(code);
+        let call = || format!("unit_apply(sheet, desk, record): desk {before:?}, record {record:?}");
+        files.same(call, answer, u64::from(code) + (u64::from(minutes) << 8))?;
         files.same(call, &unit.by_library, &unit.by_reference)?;
-        if library != 0 {
-            files.same(call, (&unit.by_library, by_library), (&before, filled))?;
+        if code != 0 {
+            files.same(call, (&unit.by_library, minutes), (&before, 0))?;
         }
-        Ok((library, (library == 0).then_some(by_library)))
+        Ok((code, (code == 0).then_some(minutes)))
     }
 
     /// Desks with changed bytes or of another length: 61 and nothing altered where they are no desk's, else what the desk in
@@ -102,9 +100,9 @@ impl Comparison {
     pub fn refused_unit(&mut self, files: Files, code: u8) -> Result<(), Difference> {
         let length = self.rng.pick(&[0, DESK]);
         let before = self.rng.bytes(length);
-        let (mut bytes, mut minutes) = (before.clone(), 7);
-        let library = library::unit_apply(files.sheet, &mut bytes, &[0; 3], &mut minutes);
-        files.same(|| "unit_apply(sheet, desk, record)".into(), (library, &bytes, minutes), (code, &before, 7))?;
+        let mut bytes = before.clone();
+        let library = library::unit_apply(files.sheet, &mut bytes, &[0; 3]);
+        files.same(|| "unit_apply(sheet, desk, record)".into(), (library, &bytes), (u64::from(code), &before))?;
         let library = library::unit_movement(files.sheet, &bytes, 0, 1);
         files.same(|| "unit_movement(sheet, desk, 0, 1)".into(), library, u64::from(code) + (255 << 16))?;
         let library = library::unit_work(files.sheet, &bytes, 0);

@@ -50,9 +50,9 @@ module _ (a : MovementAnswer) where
       let regime = regimeNumber (a .regime) in
       let fits = regime-fits (a .regime) in
       let second = ap (byteOf 2) nested ∙ packing.byte-next 1 (a .code) upper code-fits
-          ∙ packing.byte-next 0 regime counted fits in
+      ∙ packing.byte-next 0 regime counted fits in
       let third = ap (byteOf 3) nested ∙ packing.byte-next 2 (a .code) upper code-fits
-          ∙ packing.byte-next 1 regime counted fits in
+      ∙ packing.byte-next 1 regime counted fits in
       record {
         code-byte = ap (byteOf 0) nested ∙ packing.lowest-byte (a .code) upper code-fits;
         regime-byte = regime-byte code-fits;

@@ -22,7 +22,7 @@ fn fresh_stored(desk: &mut [u8], n: usize) {
     if desk.len() < n {
         return;
     }
-    write_number(unit::unit_fresh(&mut desk[..n]) as u64);
+    write_number(works_desk_unit::unit_fresh(&mut desk[..n]) as u64);
 }
 
 // Kind 1: the length, then the damage that the desk gets after it.
@@ -37,7 +37,7 @@ pub fn fresh_tried(desk: &mut [u8], input: &[u8], at: usize) -> usize {
 
 // Hears a record; writes the code, which is byte 0 of the answer, and the minutes above it.
 fn heard(sheet: &[u8], desk: &mut [u8], record: &[u8]) {
-    let answer = unit::unit_apply(sheet, desk, record);
+    let answer = works_desk_unit::unit_apply(sheet, desk, record);
     write_number(answer % 256);
     write_number(answer / 256);
 }

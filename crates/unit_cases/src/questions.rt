@@ -36,7 +36,7 @@ pub fn movement_tried(sheet: &[u8], desk: &[u8], input: &[u8], at: usize) -> usi
     let mut own = [0u8; ROOM];
     copy(desk, &mut own);
     let next = put_pairs(&mut own, input, train.next);
-    write_movement(unit::unit_movement(
+    write_movement(works_desk_unit::unit_movement(
         first(sheet, s.value as usize),
         first(&own, d.value as usize),
         (zone.value % 256) as u8,
@@ -59,7 +59,7 @@ pub fn work_tried(sheet: &[u8], desk: &[u8], input: &[u8], at: usize) -> usize {
     let mut own = [0u8; ROOM];
     copy(desk, &mut own);
     let next = put_pairs(&mut own, input, turnout.next);
-    write_work(unit::unit_work(
+    write_work(works_desk_unit::unit_work(
         first(sheet, s.value as usize),
         first(&own, d.value as usize),
         (turnout.value % 256) as u8,

@@ -1,0 +1,17 @@
+-- Packed answers taken apart: where each value stands in the number.
+use mathlib.Core.Path.{_≡_}
+use Prim.Native.Nat.{ℕ}
+use Rattle.packing.specs.Bytes.{above, byteOf}
+use Rattle.sheet.specs.declared.Sheet.{Sheet}
+use Rattle.journal.specs.Journal.{recordPlace}
+use Rattle.works_desk_journal.specs.Packed.{sheetPacked, recordPacked}
+
+-- a sheet: byte 0 is the code, byte 1 the index of the bad record
+pub record SheetBytes (a : Sheet) : Type 0 where
+  pub code-byte : byteOf 0 (sheetPacked a) ≡ a .code
+  pub index-byte : byteOf 1 (sheetPacked a) ≡ a .index
+
+-- record n: byte 0 is the code; where it is 0, the place of the record stands above it
+pub record RecordBytes (code n : ℕ) : Type 0 where
+  pub code-byte : byteOf 0 (recordPacked code n) ≡ code
+  pub place-above : code ≡ 0 → above 1 (recordPacked code n) ≡ recordPlace n

@@ -1,0 +1,21 @@
+-- The code and the verdict are packed in one number.
+use borrow.Author.Needs.{needs}
+use Rattle.works_desk_signals.proofs.desk_verdict.Statement.{statement}
+use Rattle.works_desk_signals.proofs.desk_verdict.Tie as tie
+
+returns : tie.Need-returns
+returns c =
+    rw (c .ruling-verdict .ensures, c .before .ruling-code .ensures, c .before .before .judge .ensures)
+
+pub desk-verdict-spec : {M : Type 1} → statement M
+desk-verdict-spec =
+    tie.close
+    (tie.spec
+    (λ c κs. search needs)
+    (λ c κs. search needs)
+    (λ c. search needs)
+    (λ c κs. search needs)
+    (λ c. search needs)
+    (λ c. search needs)
+    (λ c. search needs)
+    returns)

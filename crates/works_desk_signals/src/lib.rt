@@ -1,0 +1,13 @@
+// What the level Line adds to the static library `works_desk_journal`: the verdicts for works on signals.
+ghost use mathlib.Core.Path.{_≡_};
+ghost use Rattle.signals.specs.Answer.{judged};
+ghost use Rattle.works_desk_signals.specs.Packed.{verdictPacked};
+
+// The verdict for works on a signal: the code, and 256 times the verdict.
+#[no_mangle]
+pub extern "C" fn desk_verdict(line: u8, signal: u8, flags: u8) -> u32
+    ensures { λ r. ⌜ r ≡ verdictPacked (judged line signal flags) ⌝ }
+{
+    let ruling = signals::judge(line, signal, flags);
+    (signals::ruling_code(ruling) as u32) + 256 * (signals::ruling_verdict(ruling) as u32)
+}

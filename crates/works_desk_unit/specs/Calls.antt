@@ -1,0 +1,36 @@
+-- Demand 3 of the unit in the numbers that its calls return: 'yes' and 'signals clear' are a 1 in byte 1.
+use mathlib.Core.Bool.{true}
+use mathlib.Core.List.{List}
+use mathlib.Core.Path.{_≡_}
+use mathlib.Core.Logic.{_↔_}
+use Prim.Native.Nat.{ℕ}
+use Rattle.packing.specs.Bytes.{byteOf}
+use Rattle.message.specs.declared.Message.{Message}
+use Rattle.sheet.specs.Sheet.{readSheet}
+use Rattle.packed.specs.Packed.{movementPacked, workPacked}
+use Rattle.history.specs.Lists.{Input, deskAfter, zoneMessages}
+use Rattle.history.specs.Since.{since}
+use Rattle.history.specs.History.{standing, openToWork, EachWorkedCleared}
+use Rattle.works_desk_unit.specs.Unit.{unitMovement, unitWork}
+use Rattle.works_desk_unit.specs.OneByOne.{unitOf, Each, IsRecord}
+
+-- what the calls return after a list of records
+pub record CallsHold (sheet : List ℕ) (inputs : List Input) : Type 0 where
+  -- unit_work: "the desk says yes exactly when that turnout is open to work"
+  pub work :
+      (t : ℕ)
+      → let st = readSheet sheet .station in
+      (byteOf 1 (workPacked (unitWork sheet (deskAfter (unitOf sheet) st inputs) t)) ≡ 1)
+      ↔ ((z : ℕ) × (openToWork t (zoneMessages (unitOf sheet) st inputs z) ≡ true))
+  -- unit_movement: "A standing movement is answered 'signals clear' exactly when each turnout of its route under agreed work has .."
+  pub clear :
+      (z : ℕ) (f : Message) (rest : List Message)
+      → let st = readSheet sheet .station in
+      standing (zoneMessages (unitOf sheet) st inputs z) ≡ since f rest
+      → (byteOf 1 (movementPacked (unitMovement sheet (deskAfter (unitOf sheet) st inputs) z (f .id))) ≡ 1)
+      ↔ EachWorkedCleared st (zoneMessages (unitOf sheet) st inputs z) f rest
+
+-- after every list of records that a unit has heard one by one, on every sheet that is accepted
+abbrev pub CallsDemand3 : Type 0
+CallsDemand3 =
+    (sheet : List ℕ) → readSheet sheet .code ≡ 0 → (inputs : List Input) → Each IsRecord inputs → CallsHold sheet inputs

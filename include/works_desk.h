@@ -2,16 +2,17 @@
  * The turnout works desk, for firmware in C (C99) or C++.
  *
  * Three archives, built by `rt staticlib NAME`:
- *   libexports.a       levels Halt, Junction and Line: sheets, records, journals, replaying a journal, both questions after one
- *   libunit.a          levels Halt, Junction and Line: a desk of 520 bytes, heard one record at a time, and both questions of it
- *   libexports_line.a  level Line alone: verdicts for works on signals
- * They may be linked together in any mix and order. They need memcpy and memset, allocate nothing and keep nothing between calls.
+ *   libworks_desk_journal.a  levels Halt, Junction and Line: sheets, records, journals, replaying a journal, both questions after one
+ *   libworks_desk_unit.a     levels Halt, Junction and Line: a desk of 520 bytes, heard one record at a time, and both questions of it
+ *   libworks_desk_signals.a  level Line alone: verdicts for works on signals
+ * They may be linked together in any mix and order. They need memcpy, allocate nothing and keep nothing between calls.
  *
  * For every call:
  *   - No check is needed before it: every function takes any bytes, of any length, and any numbers, and is proved to return.
  *   - A buffer goes as a pointer and its length in bytes. The pointer is not NULL, also where the length is 0.
  *   - Of one call, a buffer that is written overlaps no other buffer of that call. Buffers that are only read may overlap.
- *   - The number that comes back is 0 if the call was accepted, else the first check that failed (enum desk_number).
+ *   - The code that comes back is 0 if the call was accepted, else the first check that failed (enum desk_number). Only
+ *     desk_journal_count has no code.
  *   - A refusal leaves every buffer as it was.
  *   - Several values come back packed in one number, the code in its lowest byte; the functions at each call take them apart.
  *
@@ -27,6 +28,12 @@
 extern "C" {
 #endif
 
+/* The version of this interface, raised when a call, a code or a packing changes. */
+#define DESK_INTERFACE_VERSION 1
+
+/* The version of a desk's 520 bytes, their byte 0. */
+#define DESK_BYTES_VERSION 1
+
 /* Sizes, in bytes. */
 enum {
     DESK_SHEET_MOST = 2312,       /* a sheet has 8 + 3 x turnouts + 33 x routes; most with 64 of each */
@@ -38,41 +45,41 @@ enum {
     UNIT_DESK_BYTES = 520         /* the desk of a unit */
 };
 
-/* The numbers that the calls return. */
+/* The codes: the numbers that the calls return. */
 enum desk_number {
-    DESK_ACCEPTED = 0,
-    DESK_SHEET_LENGTH = 1,   /* sheet: length */
-    DESK_SHEET_MARK = 2,     /* sheet: mark */
-    DESK_SHEET_VERSION = 3,  /* sheet: version */
-    DESK_SHEET_COUNTS = 4,   /* sheet: counts */
-    DESK_SHEET_TURNOUT = 5,  /* sheet: bad turnout, with the record's index */
-    DESK_SHEET_ROUTE = 6,    /* sheet: bad route, with the record's index */
-    DESK_RECORD_LENGTH = 10, /* a record, or the buffer for one, is not 32 bytes */
-    DESK_KIND = 11,          /* kind not 1 to 12 */
-    DESK_ZONE = 12,          /* zone not below the station's count */
-    DESK_FIELD = 13,         /* a field breaks its rule; writing a message that no record carries; a question about no turnout */
-    DESK_TIME = 14,          /* time before the zone's last accepted */
-    DESK_NO_ID = 15,         /* no work or movement under this id */
-    DESK_OCCUPIED = 16,      /* work, a movement or a clearance is there already */
-    DESK_PLACE = 17,         /* turnouts or route that the message may not name */
-    DESK_STAGE = 18,         /* the work or the movement is at another stage */
-    DESK_CONFLICT = 19,      /* a standing movement names a turnout of the work; a cleared turnout would be opened */
-    DESK_CLEARANCE = 20,     /* a clearance that does not fit its turnout */
-    DESK_MEDIUM = 21,        /* voice without a working recorder, or written with one */
-    DESK_NOT_ALLOWED = 22,   /* not allowed under this form or this regime */
-    DESK_NO_JOURNAL = 30,    /* no journal: its length, mark, version, count or zeros */
-    DESK_JOURNAL_FULL = 31,  /* the journal is full: 1,024 records, or under 32 bytes left */
-    DESK_NO_RECORD = 32,     /* record n not below the journal's count */
-    DESK_SIGNAL_RANGE = 33,  /* works on signals: line, signal or flags out of range */
-    DESK_SMALL_BUFFER = 60,  /* replaying: the buffer has under 5 bytes for each record's answer */
-    DESK_NOT_A_DESK = 61     /* unit: not the bytes of a desk, or not 520 of them */
+    DESK_E_ACCEPTED = 0,
+    DESK_E_SHEET_LENGTH = 1,   /* sheet: length */
+    DESK_E_SHEET_MARK = 2,     /* sheet: mark */
+    DESK_E_SHEET_VERSION = 3,  /* sheet: version */
+    DESK_E_SHEET_COUNTS = 4,   /* sheet: counts */
+    DESK_E_SHEET_TURNOUT = 5,  /* sheet: bad turnout, with the record's index */
+    DESK_E_SHEET_ROUTE = 6,    /* sheet: bad route, with the record's index */
+    DESK_E_RECORD_LENGTH = 10, /* a record, or the buffer for one, is not 32 bytes */
+    DESK_E_KIND = 11,          /* kind not 1 to 12 */
+    DESK_E_ZONE = 12,          /* zone not below the station's count */
+    DESK_E_FIELD = 13,         /* a field breaks its rule; writing a message that no record carries; a question about no turnout */
+    DESK_E_TIME = 14,          /* time before the zone's last accepted */
+    DESK_E_NO_ID = 15,         /* no work or movement under this id */
+    DESK_E_OCCUPIED = 16,      /* work, a movement or a clearance is there already */
+    DESK_E_PLACE = 17,         /* turnouts or route that the message may not name */
+    DESK_E_STAGE = 18,         /* the work or the movement is at another stage */
+    DESK_E_CONFLICT = 19,      /* a standing movement names a turnout of the work; a cleared turnout would be opened */
+    DESK_E_CLEARANCE = 20,     /* a clearance that does not fit its turnout */
+    DESK_E_MEDIUM = 21,        /* voice without a working recorder, or written with one */
+    DESK_E_NOT_ALLOWED = 22,   /* not allowed under this form or this regime */
+    DESK_E_NO_JOURNAL = 30,    /* no journal: its length, mark, version, count or zeros */
+    DESK_E_JOURNAL_FULL = 31,  /* the journal is full: 1,024 records, or under 32 bytes left */
+    DESK_E_NO_RECORD = 32,     /* record n not below the journal's count */
+    DESK_E_SIGNAL_RANGE = 33,  /* works on signals: line, signal or flags out of range */
+    DESK_E_SMALL_BUFFER = 60,  /* replaying: the buffer has under 5 bytes for each record's answer */
+    DESK_E_NOT_A_DESK = 61     /* unit: not the bytes of a desk, or not 520 of them */
 };
 
 /* Under which signals a movement may be ordered. */
 enum desk_regime_number {
-    DESK_HELD = 0,   /* a turnout of the route under agreed work lacks a clearance; also with every refusal */
-    DESK_CLEAR = 1,  /* all of them are declared efficient: signals clear */
-    DESK_DANGER = 2  /* all have a clearance, not all efficient: signals at danger */
+    DESK_REGIME_HELD = 0,   /* a turnout of the route under agreed work lacks a clearance; also with every refusal */
+    DESK_REGIME_CLEAR = 1,  /* all of them are declared efficient: signals clear */
+    DESK_REGIME_DANGER = 2  /* all have a clearance, not all efficient: signals at danger */
 };
 
 /* The lowest turnout where none lacks a clearance. */
@@ -94,25 +101,25 @@ enum desk_signal_verdict {
  * Id is the form of the work (kinds 1 to 4, 10, 11) or the train (5 to 9), not 0; for kind 12 it is 0. What a kind does not use is 0.
  */
 enum desk_kind {
-    DESK_WORK_ASKED = 1,      /* a: turnouts; d0: 1 form M.45, 2 recorded verbal */
-    DESK_AGREED = 2,
-    DESK_WITHDRAWN = 3,
-    DESK_DETECTION_OFF = 4,   /* a: detection lost; b: portable device */
-    DESK_MOVEMENT_ASKED = 5,  /* d0: route, 0 to 63 */
-    DESK_CLEARED = 6,         /* d0: turnout, 0 to 63; d1: declaration, 1 to 9; d2: 0 normal, 1 reverse;
-                                 d3: 0 no clamp, 1 clamp, 2 attended; d4: 1 voice, 2 written */
-    DESK_ORDERED = 7,         /* d0: 1 signals clear, 2 at danger */
-    DESK_PASSED = 8,
-    DESK_CANCELLED = 9,
-    DESK_PART_RESTORED = 10,  /* a: turnouts */
-    DESK_ALL_RESTORED = 11,
-    DESK_RECORDER = 12        /* d0: 0 out, 1 working */
+    DESK_KIND_WORK_ASKED = 1,      /* a: turnouts; d0: 1 form M.45, 2 recorded verbal */
+    DESK_KIND_AGREED = 2,
+    DESK_KIND_WITHDRAWN = 3,
+    DESK_KIND_DETECTION_OFF = 4,   /* a: detection lost; b: portable device */
+    DESK_KIND_MOVEMENT_ASKED = 5,  /* d0: route, 0 to 63 */
+    DESK_KIND_CLEARED = 6,         /* d0: turnout, 0 to 63; d1: declaration, 1 to 9; d2: 0 normal, 1 reverse;
+                                      d3: 0 no clamp, 1 clamp, 2 attended; d4: 1 voice, 2 written */
+    DESK_KIND_ORDERED = 7,         /* d0: 1 signals clear, 2 at danger */
+    DESK_KIND_PASSED = 8,
+    DESK_KIND_CANCELLED = 9,
+    DESK_KIND_PART_RESTORED = 10,  /* a: turnouts */
+    DESK_KIND_ALL_RESTORED = 11,
+    DESK_KIND_RECORDER = 12        /* d0: 0 out, 1 working */
 };
 
 /* The code of any packed answer. */
 static inline uint8_t desk_code(uint64_t answer) { return (uint8_t)(answer & 255u); }
 
-/* ---- libexports.a ---- */
+/* ---- libworks_desk_journal.a ---- */
 
 /*
  * Reads a sheet (8 + 3P + 33R bytes, at most 2,312). Codes: 0, 1 to 6, in the order length under 8, mark, version, counts, length,
@@ -188,14 +195,14 @@ static inline size_t desk_record_place(uint64_t answer) { return (size_t)(answer
  */
 uint8_t desk_journal_add(uint8_t *journal, size_t journal_len, const uint8_t *record, size_t record_len);
 
-/* ---- libunit.a ---- */
+/* ---- libworks_desk_unit.a ---- */
 
 /*
  * A unit keeps its desk in 520 bytes and may store them anywhere, as they are, from one message to the next. They are of use with the
  * station's sheet alone, which goes with each call: with a changed sheet, begin with a fresh desk.
  *
  * place  size
- *     0     1  version, 1
+ *     0     1  version, 1 (DESK_BYTES_VERSION)
  *     1     7  0
  *     8    64  zone 0; zones 1 to 7 follow at 72, 136, 200, 264, 328, 392, 456. Zones that the station has not stay as they began.
  *
@@ -242,7 +249,7 @@ uint64_t unit_movement(const uint8_t *sheet, size_t sheet_len, const uint8_t *de
 /* The work question of a desk, packed as by desk_work. Codes: 0, the sheet's, 61, 13. */
 uint32_t unit_work(const uint8_t *sheet, size_t sheet_len, const uint8_t *desk, size_t desk_len, uint8_t turnout);
 
-/* ---- libexports_line.a ---- */
+/* ---- libworks_desk_signals.a ---- */
 
 /*
  * The verdict for works on a signal. Codes: 0, 33. Back come the code and the verdict (0 if refused).

@@ -60,13 +60,13 @@ static void ask(size_t sheet_len)
 static unsigned refusal(size_t sheet_len, size_t journal_len)
 {
     unsigned code = desk_code(desk_sheet(sheet, sheet_len));
-    return code != DESK_ACCEPTED ? code : desk_journal_check(journal, journal_len);
+    return code != DESK_E_ACCEPTED ? code : desk_journal_check(journal, journal_len);
 }
 
 static void run(size_t sheet_len, size_t journal_len)
 {
     unsigned code = refusal(sheet_len, journal_len);
-    if (code != DESK_ACCEPTED) {
+    if (code != DESK_E_ACCEPTED) {
         printf("%u\n", code);
         return;
     }

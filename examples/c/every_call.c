@@ -1,0 +1,171 @@
+/*
+ * every_call: calls every function of works_desk.h on small inputs whose answers are known by hand. It prints 'every call: as expected'
+ * and returns 0, or prints each call that differs and returns 1. It needs all three archives.
+ */
+#include <inttypes.h>
+#include <stdio.h>
+#include <string.h>
+
+#include "works_desk.h"
+
+enum { MESSAGES = 6, STANDING = 4 };
+
+/* A station of one zone, with turnouts 0 and 1 and one route that runs over both: 8 + 3 x 2 + 33 x 1 bytes. */
+static const uint8_t sheet[47] = {'S', 'P', 'T', 0, 1, 2, 1, 1, 0, 255, 0, 0, 255, 0, 0, 0, 0, 0, 0, 0, 0, 0, 3};
+
+/*
+ * A conversation about work on turnout 1, every message of it accepted. After the first four (STANDING) the turnout is open to work and
+ * train 512 lacks its clearance; at the end all is restored, two minutes after the agreement.
+ */
+static const struct {
+    uint8_t kind;
+    uint32_t time, id;
+    uint64_t a;
+    uint8_t d0;
+    uint32_t minutes;
+} messages[MESSAGES] = {
+    {DESK_KIND_WORK_ASKED, 0, 7, 2, 1, 0},
+    {DESK_KIND_AGREED, 60, 7, 0, 0, 0},
+    {DESK_KIND_DETECTION_OFF, 60, 7, 2, 0, 0},
+    {DESK_KIND_MOVEMENT_ASKED, 60, 512, 0, 0, 0},
+    {DESK_KIND_CANCELLED, 120, 512, 0, 0, 0},
+    {DESK_KIND_ALL_RESTORED, 180, 7, 0, 0, 2},
+};
+
+static uint8_t record[DESK_RECORD_BYTES];
+static uint8_t journal[DESK_JOURNAL_HEAD + MESSAGES * DESK_RECORD_BYTES] = {'W', 'K', 'J', 0, 1};
+static uint8_t answers[MESSAGES * DESK_ANSWER_BYTES];
+static uint8_t desk[UNIT_DESK_BYTES];
+
+static int differences;
+
+static void check(const char *call, uint64_t value, uint64_t expected)
+{
+    if (value != expected) {
+        printf("%s: %" PRIu64 ", not %" PRIu64 "\n", call, value, expected);
+        differences++;
+    }
+}
+
+#define CHECK(call, expected) check(#call, (uint64_t)(call), (uint64_t)(expected))
+
+static void check_sheet(void)
+{
+    uint8_t bad[sizeof sheet];
+    memcpy(bad, sheet, sizeof sheet);
+    bad[11] = 1; /* turnout 1 in a zone that the station has not */
+    CHECK(desk_sheet(sheet, 0), DESK_E_SHEET_LENGTH);
+    CHECK(desk_sheet(sheet, sizeof sheet), DESK_E_ACCEPTED);
+    CHECK(desk_code(desk_sheet(bad, sizeof bad)), DESK_E_SHEET_TURNOUT);
+    CHECK(desk_sheet_index(desk_sheet(bad, sizeof bad)), 1);
+}
+
+/* Writes message n as a record. */
+static uint8_t write_message(size_t n, size_t record_len)
+{
+    return desk_write_record(messages[n].kind, 0, messages[n].time, messages[n].id, messages[n].a, 0, messages[n].d0, 0, 0, 0, 0, 0,
+                             record, record_len);
+}
+
+static void check_record(void)
+{
+    CHECK(desk_record(record, 0), DESK_E_RECORD_LENGTH);
+    CHECK(desk_record(record, sizeof record), DESK_E_KIND);
+    CHECK(write_message(0, 31), DESK_E_RECORD_LENGTH);
+    CHECK(write_message(0, sizeof record), DESK_E_ACCEPTED);
+    CHECK(record[0], DESK_KIND_WORK_ASKED);
+    CHECK(desk_record(record, sizeof record), DESK_E_ACCEPTED);
+}
+
+/* Leaves the journal full. */
+static void check_journal(void)
+{
+    CHECK(desk_journal_check(journal, 15), DESK_E_NO_JOURNAL);
+    CHECK(desk_journal_check(journal, sizeof journal), DESK_E_ACCEPTED);
+    CHECK(desk_journal_count(journal, sizeof journal), 0);
+    CHECK(desk_journal_record(journal, sizeof journal, 0), DESK_E_NO_RECORD);
+    for (size_t n = 0; n < MESSAGES; n++) {
+        CHECK(write_message(n, sizeof record), DESK_E_ACCEPTED);
+        CHECK(desk_journal_add(journal, sizeof journal, record, sizeof record), DESK_E_ACCEPTED);
+    }
+    CHECK(desk_journal_add(journal, sizeof journal, record, sizeof record), DESK_E_JOURNAL_FULL);
+    CHECK(desk_journal_count(journal, sizeof journal), MESSAGES);
+    CHECK(desk_code(desk_journal_record(journal, sizeof journal, 5)), DESK_E_ACCEPTED);
+    CHECK(desk_record_place(desk_journal_record(journal, sizeof journal, 5)), 16 + 32 * 5);
+}
+
+static void check_replay(void)
+{
+    CHECK(desk_replay(sheet, sizeof sheet, journal, sizeof journal, answers, sizeof answers - 1), DESK_E_SMALL_BUFFER);
+    CHECK(desk_replay(sheet, sizeof sheet, journal, sizeof journal, answers, sizeof answers), DESK_E_ACCEPTED);
+    for (size_t n = 0; n < MESSAGES; n++) {
+        CHECK(desk_answer_code(answers, n), DESK_E_ACCEPTED);
+        CHECK(desk_answer_minutes(answers, n), messages[n].minutes);
+    }
+}
+
+/* The answers while the movement stands: held, for turnout 1 lacks a clearance and no other does; turnout 1 is open to work. */
+static void check_standing(uint64_t movement, uint32_t work)
+{
+    CHECK(desk_code(movement), DESK_E_ACCEPTED);
+    CHECK(desk_regime(movement), DESK_REGIME_HELD);
+    CHECK(desk_lowest(movement), 1);
+    CHECK(desk_count(movement), 1);
+    CHECK(desk_code(work), DESK_E_ACCEPTED);
+    CHECK(desk_yes(work), 1);
+}
+
+/* Both questions after the whole journal, and after its first four records. */
+static void check_questions(void)
+{
+    uint64_t movement = desk_movement(sheet, sizeof sheet, journal, sizeof journal, 0, 512);
+    CHECK(desk_code(movement), DESK_E_NO_ID);
+    CHECK(desk_lowest(movement), DESK_NO_TURNOUT);
+    CHECK(desk_work(sheet, sizeof sheet, journal, sizeof journal, 1), DESK_E_ACCEPTED);
+    journal[8] = STANDING; /* the count's last byte */
+    check_standing(desk_movement(sheet, sizeof sheet, journal, sizeof journal, 0, 512),
+                   desk_work(sheet, sizeof sheet, journal, sizeof journal, 1));
+}
+
+static void check_unit(void)
+{
+    CHECK(unit_fresh(desk, sizeof desk - 1), DESK_E_NOT_A_DESK);
+    CHECK(unit_fresh(desk, sizeof desk), DESK_E_ACCEPTED);
+    CHECK(desk[0], DESK_BYTES_VERSION);
+    CHECK(unit_work(sheet, sizeof sheet, desk, sizeof desk, 64), DESK_E_FIELD);
+    CHECK(desk_code(unit_movement(sheet, sizeof sheet, desk, sizeof desk, 1, 512)), DESK_E_ZONE);
+    CHECK(unit_apply(sheet, sizeof sheet, desk, sizeof desk, record, 0), DESK_E_RECORD_LENGTH);
+    for (size_t n = 0; n < MESSAGES; n++) {
+        if (n == STANDING) {
+            check_standing(unit_movement(sheet, sizeof sheet, desk, sizeof desk, 0, 512),
+                           unit_work(sheet, sizeof sheet, desk, sizeof desk, 1));
+        }
+        write_message(n, sizeof record);
+        uint64_t answer = unit_apply(sheet, sizeof sheet, desk, sizeof desk, record, sizeof record);
+        CHECK(desk_code(answer), DESK_E_ACCEPTED);
+        CHECK(desk_minutes(answer), messages[n].minutes);
+    }
+}
+
+static void check_verdict(void)
+{
+    CHECK(desk_verdict(4, 0, 0), DESK_E_SIGNAL_RANGE);
+    CHECK(desk_code(desk_verdict(1, 0, 1)), DESK_E_ACCEPTED);
+    CHECK(desk_verdict_value(desk_verdict(1, 0, 1)), DESK_VERDICT_AT_DANGER);
+}
+
+int main(void)
+{
+    check_sheet();
+    check_record();
+    check_journal();
+    check_replay();
+    check_questions();
+    check_unit();
+    check_verdict();
+    if (differences != 0) {
+        return 1;
+    }
+    puts("every call: as expected");
+    return fflush(stdout) == 0 ? 0 : 1;
+}

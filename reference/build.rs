@@ -2,7 +2,7 @@
 
 use std::env;
 
-const ARCHIVES: [&str; 3] = ["exports", "exports_line", "unit"];
+const ARCHIVES: [&str; 3] = ["works_desk_journal", "works_desk_unit", "works_desk_signals"];
 
 fn main() {
     println!("cargo:rerun-if-env-changed=DESK_LIB");

@@ -233,7 +233,7 @@ uint8_t unit_fresh(uint8_t *desk, size_t desk_len);
 
 /*
  * Hears a record (32 bytes). If accepted, the desk (520 bytes) is written as it then stands; if refused, it stays as it was. Codes: 0, the
- * sheet's, 61, 10 to 22. Back come the code and the minutes: those from the agreement to an accepted kind 11, else 0.
+ * sheet's, 61, 10 to 22, in that order. Back come the code and the minutes: those from the agreement to an accepted kind 11, else 0.
  * Records heard one by one from a fresh desk get the codes and minutes that desk_replay gives for their journal.
  */
 uint64_t unit_apply(const uint8_t *sheet, size_t sheet_len, uint8_t *desk, size_t desk_len, const uint8_t *record,

@@ -10,7 +10,7 @@ use Rattle.zone.specs.declared.Regime.{Regime}
 use Rattle.zone.specs.declared.Regime.the-variants.{Held, Clear, Danger}
 use Rattle.desk.specs.declared.MovementAnswer.{MovementAnswer}
 use Rattle.desk.specs.declared.WorkAnswer.{WorkAnswer}
-use Rattle.packed.specs.Packed.{answerPacked, regimeNumber, movementPacked, workPacked}
+use Rattle.packed.specs.Packed.{regimeNumber, movementPacked}
 use Rattle.packed.specs.Unpacked.{AnswerBytes, MovementBytes, WorkBytes}
 
 pub answer-bytes : (code minutes : ℕ) → code < 256 → AnswerBytes code minutes

@@ -1,5 +1,4 @@
--- Answers of several values as one number: the code in its lowest byte, and the other values above it. Every value of the desk's answers
--- fits its byte.
+-- Answers of several values as one number: the code in its lowest byte, and the other values above it.
 use mathlib.Core.Bool.{cond}
 use Prim.Native.Nat.{ℕ, _+_, _*_}
 use Rattle.zone.specs.declared.Regime.{Regime}

@@ -1,16 +1,16 @@
 -- Every value of a packed answer comes back where it is below 256; a record's place needs that of the code alone.
-use mathlib.Core.Bool.{Bool, true, false, cond}
+use mathlib.Core.Bool.{Bool, true, false}
 use mathlib.Core.Path.{_≡_, refl, sym, ap, _∙_}
 use Prim.Native.Nat.{ℕ, _+_, _*_, _<_}
 use native.Mathlib.Omega.{arith}
-use native.Mathlib.Nat.{zero-add, mod-eq-of-lt}
+use native.Mathlib.Nat.{zero-add, div-eq-of-lt, mod-eq-of-lt}
 use lib.Dec.{eqb}
 use borrow.Author.Tests.{eqb-true, eq-eqb}
 use Rattle.packing.specs.Bytes.{above, byteOf}
 use Rattle.packing.proofs.Bytes.{lowest-byte, above-next, byte-next}
 use Rattle.sheet.specs.declared.Sheet.{Sheet}
 use Rattle.journal.specs.Journal.{recordPlace}
-use Rattle.works_desk_journal.specs.Packed.{sheetPacked, recordPacked}
+use Rattle.works_desk_journal.specs.Packed.{recordPacked}
 use Rattle.works_desk_journal.specs.Unpacked.{SheetBytes, RecordBytes}
 
 pub sheet-bytes : (a : Sheet) → a .code < 256 → a .index < 256 → SheetBytes a
@@ -26,7 +26,11 @@ place-packed code n none = rw (eq-eqb code 0 none, zero-add (256 * recordPlace n
 
 pub record-bytes : (code n : ℕ) → code < 256 → RecordBytes code n
 unfolding above
-record-bytes code n fits = record { code-byte = go (eqb code 0) refl; place-above = placed }
+record-bytes code n fits = record {
+  code-byte = go (eqb code 0) refl;
+  place-above = placed;
+  none-above = λ other. rw (other, div-eq-of-lt fits);
+}
   where
     go : (b : Bool) → eqb code 0 ≡ b → byteOf 0 (recordPacked code n) ≡ code
     go true p =

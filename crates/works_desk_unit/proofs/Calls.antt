@@ -20,11 +20,12 @@ use Rattle.desk.specs.Desk.{zoneAt}
 use Rattle.desk.specs.Questions.{movementAnswered, workAnswered}
 use Rattle.desk_bytes.specs.Encoding.{deskIn, isDesk}
 use Rattle.packed.specs.Packed.{regimeNumber}
-use Rattle.packed.proofs.Unpacked.{regime-byte, work-bytes}
+use Rattle.packed.proofs.Unpacked.{answer-bytes, regime-byte, work-bytes}
 use Rattle.history.specs.Lists.{deskAfter}
-use Rattle.works_desk_unit.specs.Unit.{started, unitMovement, unitWork}
+use Rattle.works_desk_unit.specs.Unit.{started, unitApplied, unitMovement, unitWork}
 use Rattle.works_desk_unit.specs.OneByOne.{unitOf}
 use Rattle.works_desk_unit.specs.Calls.{CallsDemand3}
+use Rattle.works_desk_unit.proofs.Codes.{answer-fits}
 use Rattle.works_desk_unit.proofs.Demand3.{unit-demand3}
 
 -- the desk's codes for the two questions: 0, 12, 15; 0, 13
@@ -92,6 +93,9 @@ calls-demand3 sheet good inputs pass =
     let held = unit-demand3 sheet good inputs pass in
     let last = deskAfter (unitOf sheet) (readSheet sheet .station) inputs in
     record {
+      answer = λ r.
+          let a = unitApplied sheet last r in
+          answer-bytes (a .code) (a .minutes) (answer-fits sheet last r good);
       work = λ t.
           let a = unitWork sheet last t in
           let byte = work-bytes a (unit-work-fits sheet last good t) .yes-byte in

@@ -3,4 +3,5 @@ pub mod Typed
 pub mod Follows
 pub mod OneByOne
 pub mod Demand3
+pub mod Codes
 pub mod Calls

@@ -1,7 +1,7 @@
 -- The law of the unit, proved: it hears records as the desk of the contracts does, so records heard one by one get what replaying them as a
 -- journal gives.
 use mathlib.Core.Path.{_≡_, refl, sym, ap}
-use mathlib.Core.Bool.{Bool, true, false, cond}
+use mathlib.Core.Bool.{Bool, true, false}
 use mathlib.Core.List.{List, [], _∷_, map}
 use Prim.Native.Nat.{ℕ, zero, suc, _+_}
 use lib.Dec.{eqb, lit<}
@@ -19,7 +19,7 @@ use Rattle.history.specs.Lists.{Input, message, bytes, Heard, after, answers}
 use Rattle.history.specs.Demand3.{hears, ours}
 use Rattle.replay.specs.Replay.{inputsOf, ran, replayed, movementReplayed, workReplayed}
 use Rattle.history.proofs.Hearing.{hear-refused}
-use Rattle.desk_bytes.specs.Encoding.{deskBytes, deskIn}
+use Rattle.desk_bytes.specs.Encoding.{deskBytes}
 use Rattle.desk_bytes.specs.Typed.{TypedDesk}
 use Rattle.desk_bytes.proofs.RoundTrip.{decoded-encoded, encoded-is-desk}
 use Rattle.works_desk_unit.specs.Unit.{UnitAnswer, unitFresh, started, stored, unitApplied, unitMovement, unitWork}

@@ -1,4 +1,5 @@
--- Demand 3 of the unit in the numbers that its calls return: 'yes' and 'signals clear' are a 1 in byte 1.
+-- Demand 3's sentences on the two questions in the numbers that the unit's calls return: 'yes' and 'signals clear' are a 1 in byte 1. And what
+-- is accepted: a 0 in byte 0.
 use mathlib.Core.Bool.{true}
 use mathlib.Core.List.{List}
 use mathlib.Core.Path.{_≡_}
@@ -8,14 +9,20 @@ use Rattle.packing.specs.Bytes.{byteOf}
 use Rattle.message.specs.declared.Message.{Message}
 use Rattle.sheet.specs.Sheet.{readSheet}
 use Rattle.packed.specs.Packed.{movementPacked, workPacked}
+use Rattle.packed.specs.Unpacked.{AnswerBytes}
 use Rattle.history.specs.Lists.{Input, deskAfter, zoneMessages}
 use Rattle.history.specs.Since.{since}
 use Rattle.history.specs.History.{standing, openToWork, EachWorkedCleared}
-use Rattle.works_desk_unit.specs.Unit.{unitMovement, unitWork}
+use Rattle.works_desk_unit.specs.Unit.{unitApplied, unitMovement, unitWork}
 use Rattle.works_desk_unit.specs.OneByOne.{unitOf, Each, IsRecord}
 
 -- what the calls return after a list of records
 pub record CallsHold (sheet : List ℕ) (inputs : List Input) : Type 0 where
+  -- unit_apply, of a further record: its code in byte 0, its minutes above
+  pub answer :
+      (r : List ℕ)
+      → let a = unitApplied sheet (deskAfter (unitOf sheet) (readSheet sheet .station) inputs) r in
+      AnswerBytes (a .code) (a .minutes)
   -- unit_work: "the desk says yes exactly when that turnout is open to work"
   pub work :
       (t : ℕ)

@@ -2,7 +2,7 @@
 -- 16 + 32 x 1,024 bytes of a journal is not looked at.
 use mathlib.Core.Bool.{Bool, true, false, _&&_, and-eq-true-iff}
 use mathlib.Core.List.{List, [], _∷_}
-use mathlib.Core.Path.{_≡_, refl, ap, _∙_}
+use mathlib.Core.Path.{_≡_, refl, sym, ap, ap₂, _∙_}
 use Prim.Native.Nat.{ℕ, zero, suc, _+_, _≤_, _<_}
 use native.Mathlib.Omega.{arith}
 use lib.Dec.{eqb, ltb, leb}
@@ -210,3 +210,11 @@ cut-off sheet journal = go (leb (length journal) 32784) refl
         let cut = take 32784 journal in
         ap (λ (a : WriteAnswer). text a (counted cut)) (sheet-replayed sheet cut room ∙ journal-long journal long room sheet)
         ∙ ap (text (replayed sheet journal room)) (count-long journal long)
+
+-- and so does what larger buffers hold of them
+pub cut-anywhere :
+    (k l : ℕ) (sheet journal : List ℕ) → 4096 ≤ k → 32784 ≤ l → printed (take k sheet) (take l journal) ≡ printed sheet journal
+cut-anywhere k l sheet journal sheet-room journal-room =
+    sym (cut-off (take k sheet) (take l journal))
+    ∙ ap₂ printed (take-take 4096 k sheet sheet-room) (take-take 32784 l journal journal-room)
+    ∙ cut-off sheet journal

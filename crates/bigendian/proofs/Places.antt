@@ -1,15 +1,15 @@
 -- Laws of big-endian numbers at a place of a buffer, once over the width: a wider access is two narrower ones, nothing happens
 -- past the end, and the round trips in place.
-use mathlib.Core.Path.{_≡_, refl, ap, _∙_}
+use mathlib.Core.Path.{_≡_, refl, sym, ap, _∙_}
 use mathlib.Core.Logic.{_≢_}
-use mathlib.Core.List.{List, [], _∷_, _++_}
+use mathlib.Core.List.{List, [], _∷_, _++_, append-nil}
 use Prim.Native.Nat.{ℕ, zero, suc, _+_, _*_, _/_, _%_, _^_, _≤_, _<_}
-use native.Mathlib.Nat.{le-refl, add-zero, zero-add, zero-mul, add-assoc, suc-add, add-suc}
+use native.Mathlib.Nat.{le-refl, le-of-eq, add-zero, zero-add, zero-mul, add-assoc, suc-add, add-suc}
 use native.Mathlib.Numerals.{add-one, one-add}
 use native.Mathlib.Omega.{arith}
 use lib.Dec.{lit<}
-use lib.ListN.{length, getD, set, length-set, List·getD-eq-default}
-use lib.Seq.{sets, set-out, set-getD, getD-set-same, getD-set-other}
+use lib.ListN.{length, getD, set, drop, length-set, List·getD-eq-default}
+use lib.Seq.{sets, sets-eq, drop-length, set-out, set-getD, getD-set-same, getD-set-other}
 use Rattle.bigendian.specs.BigEndian.{Bytes, beValue, beBytes, bytesAt, numberAt, storedAt}
 use Rattle.bigendian.proofs.Numbers.{length-beBytes, value-append, value-bytes, bytes-value, bytes-add, bytes-mod, value-lt}
 
@@ -26,7 +26,8 @@ pub bytesAt-all : (s : List ℕ) → bytesAt s 0 (length s) ≡ s
 bytesAt-all [] = refl
 bytesAt-all (b ∷ s) = ap (λ (l : List ℕ). b ∷ l) (bytesAt-next b s 0 (length s) ∙ bytesAt-all s)
 
-bytesAt-add : (s : List ℕ) (at v w : ℕ) → bytesAt s at (v + w) ≡ bytesAt s at v ++ bytesAt s (at + v) w
+-- the bytes from a place on, in two parts
+pub bytesAt-add : (s : List ℕ) (at v w : ℕ) → bytesAt s at (v + w) ≡ bytesAt s at v ++ bytesAt s (at + v) w
 bytesAt-add s at zero w = rw (zero-add, add-zero)
 bytesAt-add s at (suc v) w = rw (suc-add v w, bytesAt-add s (at + 1) v w, add-assoc, one-add)
 
@@ -44,6 +45,20 @@ number-past (suc w) s at past =
 pub sets-append : (s : List ℕ) (at : ℕ) (xs ys : List ℕ) → sets s at (xs ++ ys) ≡ sets (sets s at xs) (at + length xs) ys
 sets-append s at [] ys = rw add-zero
 sets-append s at (x ∷ xs) ys = rw (sets-append (set s at x) (suc at) xs ys, suc-add, add-suc)
+
+-- a part stored, and then the rest from the place where the part ends
+pub part-then :
+    (xs rest s : List ℕ) {t u : List ℕ} (at to : ℕ) → at + length xs ≡ to → t ≡ sets s at xs → u ≡ sets t to rest
+    → u ≡ sets s at (xs ++ rest)
+part-then xs rest s at to place first later =
+    later ∙ ap (λ (x : List ℕ). sets x to rest) first
+    ∙ sym (sets-append s at xs rest ∙ ap (λ (p : ℕ). sets (sets s at xs) p rest) place)
+
+-- a store over the whole buffer leaves nothing of it
+pub sets-whole : (s vs : List ℕ) → length vs ≡ length s → sets s 0 vs ≡ vs
+sets-whole s vs same =
+    let rest : drop (0 + length vs) s ≡ [] = rw (zero-add (length vs), same) (drop-length s) in
+    sets-eq vs s 0 (rw (zero-add (length vs)) (le-of-eq same)) ∙ rw (rest, append-nil vs)
 
 -- a store of v + w bytes is one of the v bytes above, then one of the w bytes below
 pub stored-add : (v w : ℕ) (s : List ℕ) (at n : ℕ) → storedAt (v + w) s at n ≡ storedAt w (storedAt v s at (n / 256 ^ w)) (at + v) (n % 256 ^ w)

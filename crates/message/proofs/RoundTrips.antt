@@ -3,13 +3,12 @@
 -- are of their machine types and the buffer is one that a record fits.
 use mathlib.Core.Path.{_≡_, refl, sym, ap, _∙_}
 use mathlib.Core.Bool.{Bool, true, false}
-use mathlib.Core.List.{List, [], _++_, _∷_, append-nil}
-use Prim.Native.Nat.{ℕ, _+_, _^_, _<_}
-use native.Mathlib.Nat.{mod-eq-of-lt, le-of-eq, zero-add}
+use mathlib.Core.List.{List, _++_, _∷_}
+use Prim.Native.Nat.{ℕ, _^_, _<_}
+use native.Mathlib.Nat.{mod-eq-of-lt}
 use native.Mathlib.Omega.{arith}
 use lib.Dec.{eqb}
-use lib.ListN.{length, getD, drop}
-use lib.Seq.{sets, sets-eq, drop-length}
+use lib.ListN.{length, getD}
 use borrow.Author.Tests.{eq-eqb, eqb-true}
 use Rattle.bigendian.proofs.Numbers.{value-bytes}
 use Rattle.bigendian.proofs.Places.{bytesAt-all, bytes-number}
@@ -24,12 +23,6 @@ pub record Typed (m : Message) : Type 0 where
   pub id : m .id < 2 ^ 32
   pub a : m .a < 2 ^ 64
   pub b : m .b < 2 ^ 64
-
--- a store over the whole buffer leaves nothing of it
-pub sets-whole : (s vs : List ℕ) → length vs ≡ length s → sets s 0 vs ≡ vs
-sets-whole s vs same =
-    let rest : drop (0 + length vs) s ≡ [] = rw (zero-add (length vs), same) (drop-length s) in
-    sets-eq vs s 0 (rw (zero-add (length vs)) (le-of-eq same)) ∙ rw (rest, append-nil vs)
 
 decoded-encoded : (m : Message) → Typed m → decoded (encoded m) ≡ m
 unfolding decoded encoded headBytes

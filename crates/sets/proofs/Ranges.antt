@@ -45,6 +45,12 @@ module _ (p : ℕ → Bool) where
   pub all-below : (k : ℕ) → allFrom p 0 k ≡ true → (n : ℕ) → n < k → p n ≡ true
   all-below k h n l = ap p (sym (zero-add n)) ∙ all-at 0 k h n l
 
+  -- where each from i on passes, all do
+  pub all-from : (i k : ℕ) → ((n : ℕ) → i ≤ n → p n ≡ true) → allFrom p i k ≡ true
+  unfolding allFrom
+  all-from i zero h = refl
+  all-from i (suc k) h = ap₂ (λ (a b : Bool). a && b) (h i (omega arith)) (all-from (i + 1) k (λ n l. h n (omega arith)))
+
   -- where no first one is found, the next does not pass, and none is found after it
   first-later : (i k : ℕ) → i + suc k ≤ firstFrom p i (suc k) → (p i ≡ false) × (i + 1 + k ≤ firstFrom p (i + 1) k)
   unfolding firstFrom

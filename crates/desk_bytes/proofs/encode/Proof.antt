@@ -2,7 +2,7 @@
 use denote.Ref.{now}
 use mathlib.Core.Path.{refl}
 use Rattle.desk_bytes.specs.Encoding.{headBytes, zonesFrom, deskBytes}
-use Rattle.desk_bytes.proofs.Stores.{part-then}
+use Rattle.bigendian.proofs.Places.{part-then}
 use borrow.Author.Needs.{needs}
 use Rattle.desk_bytes.proofs.encode.Statement.{statement}
 use Rattle.desk_bytes.proofs.encode.Tie as tie

@@ -3,8 +3,9 @@ use mathlib.Core.Path.{sym, _∙_}
 use lib.ListN.{length}
 use denote.Ref.{now}
 use borrow.Author.Tests.{eq-eqb, ne-eqb}
+use Rattle.bigendian.proofs.Places.{sets-whole}
 use Rattle.message.specs.Record.{encoded, written}
-use Rattle.message.proofs.RoundTrips.{sets-whole, length-encoded, written-kept}
+use Rattle.message.proofs.RoundTrips.{length-encoded, written-kept}
 use borrow.Author.Needs.{needs}
 use Rattle.message.proofs.write_record.Statement.{statement}
 use Rattle.message.proofs.write_record.Tie as tie

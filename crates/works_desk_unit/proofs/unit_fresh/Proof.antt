@@ -2,7 +2,7 @@
 use denote.Ref.{now}
 use mathlib.Core.Path.{sym, _∙_}
 use lib.ListN.{length}
-use Rattle.message.proofs.RoundTrips.{sets-whole}
+use Rattle.bigendian.proofs.Places.{sets-whole}
 use Rattle.desk_bytes.specs.Encoding.{deskBytes}
 use Rattle.desk_bytes.proofs.RoundTrip.{length-deskBytes}
 use borrow.Author.Tests.{eq-eqb, ne-eqb}

@@ -8,7 +8,7 @@ use lib.ListN.{replicate}
 use lib.Seq.{sets}
 use Rattle.bigendian.specs.BigEndian.{beBytes}
 use Rattle.desk_bytes.specs.Encoding.{lastBytes}
-use Rattle.desk_bytes.proofs.Stores.{part-then}
+use Rattle.bigendian.proofs.Places.{part-then}
 use borrow.Author.Needs.{needs}
 use Rattle.desk_bytes.proofs.storing.put_last.Statement.{statement}
 use Rattle.desk_bytes.proofs.storing.put_last.Tie as tie

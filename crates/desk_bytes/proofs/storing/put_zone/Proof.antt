@@ -5,7 +5,7 @@ use mathlib.Core.Path.{refl}
 use Prim.Native.Nat.{_+_}
 use native.Mathlib.Omega.{arith}
 use Rattle.desk_bytes.specs.Encoding.{workBytes, movementBytes, lastBytes, zoneBytes}
-use Rattle.desk_bytes.proofs.Stores.{part-then}
+use Rattle.bigendian.proofs.Places.{part-then}
 use borrow.Author.Needs.{needs}
 use Rattle.desk_bytes.proofs.storing.put_zone.Statement.{statement}
 use Rattle.desk_bytes.proofs.storing.put_zone.Tie as tie

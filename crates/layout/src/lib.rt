@@ -7,6 +7,7 @@ ghost use Rattle.layout.specs.Layout.{
   versionKept,
   withinLimits,
   countsKept,
+  sheetLength,
   headerNumber,
   turnoutIn,
   routeIn,
@@ -52,7 +53,7 @@ fn within_limits(turnouts: u8, routes: u8, p: u8, r: u8) -> bool
 }
 
 // Whether P, R and Z are in range.
-fn counts_kept(p: u8, r: u8, z: u8) -> bool
+pub fn counts_kept(p: u8, r: u8, z: u8) -> bool
     ensures { λ b. ⌜ b ≡ countsKept p r z ⌝ }
 {
     (1 <= p) & within_limits(64, 64, p, r) & (1 <= z) & (z <= 8)
@@ -65,17 +66,20 @@ fn version_kept(v: u16) -> bool
     v == 1
 }
 
+// The length of a sheet with so many turnouts and routes.
+pub fn sheet_length(p: u8, r: u8) -> usize
+    ensures { λ n. ⌜ n ≡ sheetLength p r ⌝ }
+{
+    HEADER + 3 * (p as usize) + 33 * (r as usize)
+}
+
 // 0 if the header and the length are good, else the first number of 1, 2, 3, 4, 1 that fits.
 pub fn header_code(s: &[u8]) -> u8
     ensures { λ r. ⌜ r ≡ headerNumber (now (s .entry)) ⌝ }
 {
     let p = bigendian::get8(s, 5);
     let r = bigendian::get8(s, 6);
-    let length = first_code(
-        s.len() != HEADER + 3 * (p as usize) + 33 * (r as usize),
-        BAD_LENGTH,
-        0,
-    );
+    let length = first_code(s.len() != sheet_length(p, r), BAD_LENGTH, 0);
     let counts = first_code(
         !counts_kept(p, r, bigendian::get8(s, 7)),
         BAD_COUNTS,

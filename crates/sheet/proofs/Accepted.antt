@@ -1,5 +1,5 @@
 -- The station of an accepted sheet passes the reader's tests, has all that document 01 asks, and is accepted as it is.
-use mathlib.Core.Bool.{Bool, true, false, cond, not, _||_, and-eq-true-iff}
+use mathlib.Core.Bool.{Bool, true, false, cond, not, _||_}
 use mathlib.Core.Logic.{_≢_, inl, inr}
 use mathlib.Core.Path.{_≡_, refl, ap, _∙_}
 use mathlib.Core.List.{List}
@@ -7,17 +7,17 @@ use Prim.Native.Nat.{ℕ, _<_}
 use native.Mathlib.Omega.{arith}
 use borrow.Author.Tests.{eqb-true, eqb-false, leb-true, ltb-true, ltb-false, not-true, not-false}
 use lib.Dec.{eqb, ltb, leb}
-use lib.ListN.{length}
 use Rattle.sets.specs.Range.{firstFrom}
 use Rattle.sets.proofs.Ranges.{none-below, not-found}
 use Rattle.station.specs.declared.Station.{Station}
 use Rattle.sheet.specs.declared.Sheet.{Sheet}
 use Rattle.station.specs.Station.{emptyTurnout, emptyRoute, turnoutAt, turnoutCount, routeCount, zoneCount}
-use Rattle.layout.specs.Layout.{hasMark, version, versionKept, countP, countR, countZ, withinLimits, countsKept, lengthKept, headerNumber, turnoutIn, turnoutPlace, routeIn, routePlace, stationIn}
+use Rattle.layout.specs.Layout.{countP, countR, countsKept, headerNumber, turnoutIn, turnoutPlace, routeIn, routePlace, stationIn}
 use Rattle.sheet.specs.Accepted.{GoodCounts, Crossover, GoodTurnout, Passed, Accepted}
 use Rattle.sheet.specs.Partners.{partnerKept, goodTurnout, badTurnout}
 use Rattle.sheet.specs.Sheet.{goodRoute, badRoute, refusedSheet, acceptedSheet, routesJudged, judged, readSheet}
-use Rattle.sheet.proofs.Joined.{three, four, five, either}
+use Rattle.layout.proofs.Header.{no-fault, in-range}
+use Rattle.layout.proofs.Joined.{three, five, either}
 use Rattle.sets.proofs.Tables.{places-past}
 use Rattle.sheet.proofs.AcceptedRoute.{good-route}
 
@@ -52,31 +52,22 @@ module _ (st : Station) (counts : GoodCounts st) where
         partner = elim (either alone paired (kept .2)) [ inl e ↦ inl (eqb-true (t .partner) 255 e) | inr e ↦ inr (crossover n e) ];
       }
 
--- a header without a fault has counts in range
-good-counts : (s : List ℕ) → headerNumber s ≡ 0 → GoodCounts (stationIn s)
-unfolding headerNumber stationIn
-good-counts s h =
-    let p = countP s in
-    let r = countR s in
-    let z = countZ s in
-    let later : ℕ = cond (not (lengthKept s)) 1 0 in
-    let in-range = go (ltb (length s) 8) (hasMark s) (versionKept (version s)) (countsKept p r z) later h in
-    let kept = four (leb 1 p) (withinLimits 64 64 p r) (leb 1 z) (leb z 8) in-range in
-    let limits = and-eq-true-iff (leb p 64) (leb r 64) .0 (kept .1) in
+-- counts that pass the header's test are in range
+pub counts-in-range : (st : Station) → countsKept (st .turnouts) (st .routes) (st .zones) ≡ true → GoodCounts st
+counts-in-range st h =
+    let kept = in-range (st .turnouts) (st .routes) (st .zones) h in
     record {
-      some-turnout = leb-true 1 p (kept .0);
-      turnouts-limit = leb-true p 64 (limits .0);
-      routes-limit = leb-true r 64 (limits .1);
-      some-zone = leb-true 1 z (kept .2);
-      zones-limit = leb-true z 8 (kept .3);
+      some-turnout = kept .0;
+      turnouts-limit = kept .1;
+      routes-limit = kept .2;
+      some-zone = kept .3;
+      zones-limit = kept .4;
     }
-  where
-    go : (a b c d : Bool) (later : ℕ) → cond a 1 (cond (not b) 2 (cond (not c) 3 (cond (not d) 4 later))) ≡ 0 → d ≡ true
-    go a b c true later h = refl
-    go true b c false later h = cc
-    go false false c false later h = cc
-    go false true false false later h = cc
-    go false true true false later h = cc
+
+-- and so are those of a header without a fault
+good-counts : (s : List ℕ) → headerNumber s ≡ 0 → GoodCounts (stationIn s)
+unfolding stationIn
+good-counts s h = counts-in-range (stationIn s) (no-fault s h .2)
 
 -- where no bad one is found below k, each is good
 none-bad : (good : ℕ → Bool) (k : ℕ) → ltb (firstFrom (λ n. not (good n)) 0 k) k ≡ false → (n : ℕ) → n < k → good n ≡ true
@@ -90,7 +81,7 @@ unrefused true r x refusal h = absurd (refusal h)
 unrefused false r x refusal h = (refl, refl)
 
 -- a station judged without a refusal: the answer, and no bad record among those counted
-passed :
+pub passed :
     (st : Station) → judged st .code ≡ 0 →
     (judged st ≡ acceptedSheet st)
     × ((n : ℕ) → n < turnoutCount st → goodTurnout st n ≡ true)
@@ -120,7 +111,7 @@ all-asked st p = record {
 
 module _ (s : List ℕ) (code-zero : readSheet s .code ≡ 0) where
   -- no fault in the header, and the answer is the judgement of the station in the bytes
-  headed : (headerNumber s ≡ 0) × (readSheet s ≡ judged (stationIn s))
+  pub headed : (headerNumber s ≡ 0) × (readSheet s ≡ judged (stationIn s))
   unfolding readSheet
   headed = go (eqb (headerNumber s) 0) refl code-zero
     where

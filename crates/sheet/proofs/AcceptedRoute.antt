@@ -15,7 +15,7 @@ use Rattle.station.specs.declared.Station.{Station}
 use Rattle.station.specs.Station.{turnoutAt, routeAt, turnoutCount, zoneOf, tied, namedBy, whole}
 use Rattle.sheet.specs.Accepted.{GoodRoute}
 use Rattle.sheet.specs.Sheet.{allTurnouts, setsKept, memberKept, goodRoute}
-use Rattle.sheet.proofs.Joined.{three, six, asked}
+use Rattle.layout.proofs.Joined.{three, six, asked}
 
 module _ (st : Station) where
   -- what the tests of a route say of each turnout

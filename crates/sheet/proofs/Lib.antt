@@ -1,4 +1,3 @@
-pub mod Joined
 pub mod AcceptedRoute
 pub mod Accepted
 pub mod Judging

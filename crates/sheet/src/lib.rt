@@ -3,7 +3,7 @@
 ghost use mathlib.Core.Path.{_≡_};
 ghost use Rattle.sheet.specs.Sheet.{readSheet};
 
-mod judge;
+pub mod judge;
 mod partners;
 
 // The numbers that refuse a sheet by a record; those of its header and its length are in the crate `layout`.

@@ -17,8 +17,9 @@ returns c =
       c .before .before .before .before .before .before .before .counts-kept .ensures,
       c .before .before .before .before .before .before .before .before .get83 .ensures,
       c .before .before .before .before .before .before .before .before .before .first-code .ensures,
-      c .before .before .before .before .before .before .before .before .before .before .get82 .ensures,
-      c .before .before .before .before .before .before .before .before .before .before .before .get8 .ensures,
+      c .before .before .before .before .before .before .before .before .before .before .sheet-length .ensures,
+      c .before .before .before .before .before .before .before .before .before .before .before .get82 .ensures,
+      c .before .before .before .before .before .before .before .before .before .before .before .before .get8 .ensures,
     )
 
 pub header-code-spec : {M : Type 1} → statement M
@@ -27,12 +28,7 @@ header-code-spec =
     (tie.spec
     (λ c κs. search needs)
     (λ c κs. search needs)
-    (λ c. search needs)
-    (λ c. search needs)
-    (λ c. search needs)
-    (λ c. search needs)
-    (λ c. search needs)
-    (λ c. search needs)
+    (λ c κs. search needs)
     (λ c κs. search needs)
     (λ c κs. search needs)
     (λ c κs. search needs)

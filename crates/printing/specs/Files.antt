@@ -1,9 +1,8 @@
 -- Files in buffers, and their text in one: document 01, 'Station K'.
-use mathlib.Core.List.{List}
+use mathlib.Core.List.{List, _++_}
 use mathlib.Core.Path.{_≡_}
 use Prim.Native.Nat.{ℕ}
-use lib.ListN.{length, take}
-use lib.Seq.{sets}
+use lib.ListN.{length, take, drop}
 use Rattle.report.specs.Text.{Filled}
 use Rattle.desk_text.specs.Printed.{printed}
 
@@ -11,12 +10,12 @@ use Rattle.desk_text.specs.Printed.{printed}
 abbrev pub Holds : List ℕ → ℕ → List ℕ → Type 0
 Holds buffer n file = take n buffer ≡ take (length buffer) file
 
--- a buffer with the whole text at its start, and the text's length
+-- the whole text, what a buffer has past it, and the text's length
 abbrev pub wholeText : List ℕ → List ℕ → Filled
-wholeText out text = record { place = length text; bytes = sets out 0 text }
+wholeText out text = record { place = length text; bytes = text ++ drop (length text) out }
 
--- Whatever files two buffers hold so far as they go, this is the whole text of these files: nothing of it is cut, and what the buffers cut off the
--- files changes nothing.
+-- Whatever files two buffers hold so far as they go, this is the whole text of these files: nothing
+-- of it is cut, and what the buffers cut off the files changes nothing.
 abbrev pub TextOfFiles : List ℕ → ℕ → List ℕ → ℕ → List ℕ → Filled → Type 0
 TextOfFiles sheet n journal m out text =
     (sheet-file journal-file : List ℕ) → Holds sheet n sheet-file → Holds journal m journal-file

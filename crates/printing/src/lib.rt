@@ -1,5 +1,5 @@
-// Printing the text of a sheet and a journal that stand in files: what the desk program does, for any names. The text is `desk_text`'s; what is
-// proved here is that the program's buffers hold all of it, and that printing is safe and ends.
+// Printing the text of a sheet and a journal that stand in files: what the desk program does, for any names. The text is
+// `desk_text`'s; what is proved here is that the program's buffers hold all of it, and that printing is safe and ends.
 ghost use Prim.Native.Nat.{_≤_};
 ghost use lib.ListN.{length};
 ghost use Rattle.io.specs.Counts.{Counts};

@@ -1,0 +1,2 @@
+pub mod SheetBytes
+pub mod Typed

@@ -1,0 +1,3 @@
+pub mod Search
+pub mod Described
+pub mod Laws

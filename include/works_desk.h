@@ -2,7 +2,8 @@
  * The turnout works desk, for firmware in C (C99) or C++.
  *
  * Three archives, built by `rt staticlib NAME`:
- *   libworks_desk_journal.a  levels Halt, Junction and Line: sheets, records, journals, replaying a journal, both questions after one
+ *   libworks_desk_journal.a  levels Halt, Junction and Line: sheets and their copies, records, journals, replaying a journal, both questions
+ *                            after one
  *   libworks_desk_unit.a     levels Halt, Junction and Line: a desk of 520 bytes, heard one record at a time, and both questions of it
  *   libworks_desk_signals.a  level Line alone: verdicts for works on signals
  * They may be linked together in any mix and order. They need memcpy, allocate nothing and keep nothing between calls.
@@ -29,7 +30,7 @@ extern "C" {
 #endif
 
 /* The version of this interface, raised when a call, a code or a packing changes. */
-#define DESK_INTERFACE_VERSION 1
+#define DESK_INTERFACE_VERSION 2
 
 /* The version of a desk's 520 bytes, their byte 0. */
 #define DESK_BYTES_VERSION 1
@@ -54,6 +55,8 @@ enum desk_number {
     DESK_E_SHEET_COUNTS = 4,   /* sheet: counts */
     DESK_E_SHEET_TURNOUT = 5,  /* sheet: bad turnout, with the record's index */
     DESK_E_SHEET_ROUTE = 6,    /* sheet: bad route, with the record's index */
+    DESK_E_NO_SHEET = 7,       /* writing a sheet: no sheet describes the station; no call here gives it, since a station comes from a sheet */
+    DESK_E_SHEET_BUFFER = 8,   /* writing a sheet: the buffer is shorter than the sheet */
     DESK_E_RECORD_LENGTH = 10, /* a record, or the buffer for one, is not 32 bytes */
     DESK_E_KIND = 11,          /* kind not 1 to 12 */
     DESK_E_ZONE = 12,          /* zone not below the station's count */
@@ -127,7 +130,15 @@ static inline uint8_t desk_code(uint64_t answer) { return (uint8_t)(answer & 255
  */
 uint32_t desk_sheet(const uint8_t *sheet, size_t sheet_len);
 
+/* Of the answers of desk_sheet and desk_copy_sheet. */
 static inline uint8_t desk_sheet_index(uint32_t answer) { return (uint8_t)(answer >> 8); }
+
+/*
+ * Reads a sheet and writes it into the buffer, which may be longer: checks a corrected sheet and copies it. Codes: 0, the sheet's (1 to 6), 8.
+ * It never gives 7. Back come the code and the index, as by desk_sheet. If accepted, the sheet's bytes stand at the start of the buffer and
+ * the bytes past them stay; if refused, every byte stays.
+ */
+uint32_t desk_copy_sheet(const uint8_t *sheet, size_t sheet_len, uint8_t *buffer, size_t buffer_len);
 
 /* Reads a record (32 bytes). Codes: 0, 10, 11, 13. What depends on the station or on earlier messages is for the desk to check. */
 uint8_t desk_record(const uint8_t *record, size_t record_len);

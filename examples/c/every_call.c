@@ -49,6 +49,20 @@ static void check(const char *call, uint64_t value, uint64_t expected)
 
 #define CHECK(call, expected) check(#call, (uint64_t)(call), (uint64_t)(expected))
 
+/* Copies the sheet, and one whose turnout 1 is bad, into a buffer of 255s that is a byte longer. */
+static void check_copy(const uint8_t *bad)
+{
+    uint8_t copy[sizeof sheet + 1];
+    memset(copy, 255, sizeof copy);
+    CHECK(desk_code(desk_copy_sheet(bad, sizeof sheet, copy, 0)), DESK_E_SHEET_TURNOUT);
+    CHECK(desk_sheet_index(desk_copy_sheet(bad, sizeof sheet, copy, sizeof copy)), 1);
+    CHECK(desk_copy_sheet(sheet, sizeof sheet, copy, sizeof sheet - 1), DESK_E_SHEET_BUFFER);
+    CHECK(copy[0], 255);
+    CHECK(desk_copy_sheet(sheet, sizeof sheet, copy, sizeof copy), DESK_E_ACCEPTED);
+    CHECK(memcmp(copy, sheet, sizeof sheet), 0);
+    CHECK(copy[sizeof sheet], 255);
+}
+
 static void check_sheet(void)
 {
     uint8_t bad[sizeof sheet];
@@ -58,6 +72,7 @@ static void check_sheet(void)
     CHECK(desk_sheet(sheet, sizeof sheet), DESK_E_ACCEPTED);
     CHECK(desk_code(desk_sheet(bad, sizeof bad)), DESK_E_SHEET_TURNOUT);
     CHECK(desk_sheet_index(desk_sheet(bad, sizeof bad)), 1);
+    check_copy(bad);
 }
 
 /* Writes message n as a record. */

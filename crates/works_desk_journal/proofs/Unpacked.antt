@@ -8,16 +8,16 @@ use lib.Dec.{eqb}
 use borrow.Author.Tests.{eqb-true, eq-eqb}
 use Rattle.packing.specs.Bytes.{above, byteOf}
 use Rattle.packing.proofs.Bytes.{lowest-byte, above-next, byte-next}
-use Rattle.sheet.specs.declared.Sheet.{Sheet}
+use Rattle.sheet.specs.declared.Finding.{Finding}
 use Rattle.journal.specs.Journal.{recordPlace}
 use Rattle.works_desk_journal.specs.Packed.{recordPacked}
-use Rattle.works_desk_journal.specs.Unpacked.{SheetBytes, RecordBytes}
+use Rattle.works_desk_journal.specs.Unpacked.{FindingBytes, RecordBytes}
 
-pub sheet-bytes : (a : Sheet) → a .code < 256 → a .index < 256 → SheetBytes a
+pub finding-bytes : (f : Finding) → f .code < 256 → f .index < 256 → FindingBytes f
 unfolding above
-sheet-bytes a code-fits index-fits = record {
-  code-byte = lowest-byte (a .code) (a .index) code-fits;
-  index-byte = byte-next 0 (a .code) (a .index) code-fits ∙ mod-eq-of-lt index-fits;
+finding-bytes f code-fits index-fits = record {
+  code-byte = lowest-byte (f .code) (f .index) code-fits;
+  index-byte = byte-next 0 (f .code) (f .index) code-fits ∙ mod-eq-of-lt index-fits;
 }
 
 -- a record's place stands above the code 0

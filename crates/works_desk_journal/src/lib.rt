@@ -7,7 +7,8 @@ ghost use Rattle.sheet.specs.Sheet.{readSheet};
 ghost use Rattle.journal.specs.Journal.{journalNumber, counted, recordNumber, added};
 ghost use Rattle.replay.specs.Replay.{replayed, movementReplayed, workReplayed};
 ghost use Rattle.packed.specs.Packed.{movementPacked, workPacked};
-ghost use Rattle.works_desk_journal.specs.Packed.{sheetPacked, recordPacked};
+ghost use Rattle.sheet_writer.specs.Writer.{copiedSheet};
+ghost use Rattle.works_desk_journal.specs.Packed.{sheetPacked, copyPacked, recordPacked};
 use message::Message;
 
 // Reads a sheet: its code, and 256 times the index of the bad record.
@@ -17,6 +18,15 @@ pub extern "C" fn desk_sheet(sheet: &[u8]) -> u32
 {
     let read = sheet::read_sheet(sheet);
     (read.code as u32) + 256 * (read.index as u32)
+}
+
+// Reads a sheet and writes it into the buffer: the code, and 256 times the index of the bad record. It never gives 7.
+#[no_mangle]
+pub extern "C" fn desk_copy_sheet(sheet: &[u8], buffer: &mut [u8]) -> u32
+    ensures { λ r. ⌜ record { answer = r; bytes = now (buffer .exit) } ≡ copyPacked (copiedSheet (now (sheet .entry)) (now (buffer .entry))) ⌝ }
+{
+    let found = sheet_writer::copy_sheet(sheet, buffer);
+    (found.code as u32) + 256 * (found.index as u32)
 }
 
 // Reads a record: 0, or the number that refuses it.

@@ -2,7 +2,8 @@
 
 use std::env;
 
-const ARCHIVES: [&str; 3] = ["works_desk_journal", "works_desk_unit", "works_desk_signals"];
+/// The last is not shipped: it lends the writer any station, for the comparison.
+const ARCHIVES: [&str; 4] = ["works_desk_journal", "works_desk_unit", "works_desk_signals", "station_trial"];
 
 fn main() {
     println!("cargo:rerun-if-env-changed=DESK_LIB");

@@ -59,6 +59,28 @@ pub fn station_k() -> Sheet {
     Sheet::new(1).crossover(0, ELECTRIC).turnout(0, HAND).route(0, &[0], &[2], &[], &[])
 }
 
+/// 64 turnouts, 64 routes, 8 zones. Zone z has turnouts 8z to 8z + 7: two crossovers (the first electric, the second
+/// by hand), then four alone. Each zone has eight routes.
+pub fn largest_station() -> Sheet {
+    let mut sheet = Sheet::new(8);
+    for zone in 0..8 {
+        sheet = sheet.crossover(zone, ELECTRIC).crossover(zone, HAND);
+        sheet = sheet.turnout(zone, ELECTRIC).turnout(zone, HAND).turnout(zone, ELECTRIC).turnout(zone, HAND);
+    }
+    for n in 0..64 {
+        let (zone, shape) = (n / 8, n % 8);
+        let t = |k: u8| 8 * zone + k;
+        sheet = match shape {
+            0 => sheet.route(zone, &[t(0), t(1), t(4)], &[t(2), t(3)], &[t(5)], &[t(0), t(1)]),
+            1 => sheet.route(zone, &[t(0)], &[], &[t(7)], &[t(7)]),
+            2 => sheet.route(zone, &[t(5), t(6)], &[t(0), t(1)], &[t(2)], &[t(2), t(5)]),
+            3 => sheet.route(zone, &(0..8).map(t).collect::<Vec<_>>(), &[], &[], &[]),
+            _ => sheet.route(zone, &[t(shape)], &[t(2), t(3)], &[t(0)], &[]),
+        };
+    }
+    sheet
+}
+
 /// 01, "Station K": the eleven records, all zone 0.
 pub fn journal_k() -> Vec<Message> {
     vec![

@@ -1,4 +1,4 @@
-//! The turnout works desk, written a second time from document 01 alone.
+//! The turnout works desk, written a second time from documents 01 and 02 alone.
 //! Used to test the proved library: by stored cases (`vectors`) and side by side (`differential`).
 
 pub mod builders;
@@ -15,5 +15,7 @@ pub mod set;
 pub mod sheet;
 pub mod signals;
 pub mod station;
+pub mod trial;
 pub mod unit;
+pub mod writer;
 pub mod zone;

@@ -1,10 +1,14 @@
-//! The C interface of the proved library, and safe calls over it.
+//! The C interface of the proved library, and safe calls over it. `trial_write_sheet` is of no shipped archive: it is
+//! there for the comparison, since no other call takes a station that no sheet gave.
 
 use crate::message::Message;
+use crate::trial::VALUES;
 
 mod c {
     extern "C" {
         pub fn desk_sheet(sheet: *const u8, len: usize) -> u32;
+        pub fn desk_copy_sheet(sheet: *const u8, sheet_len: usize, buffer: *mut u8, len: usize) -> u32;
+        pub fn trial_write_sheet(values: *const u8, values_len: usize, buffer: *mut u8, len: usize) -> u8;
         pub fn desk_record(record: *const u8, len: usize) -> u8;
         pub fn desk_write_record(
             kind: u8,
@@ -79,6 +83,16 @@ pub fn sheet(sheet: &[u8]) -> u32 {
     unsafe { c::desk_sheet(sheet.as_ptr(), sheet.len()) }
 }
 
+/// Packed as by `sheet`.
+pub fn copy_sheet(sheet: &[u8], buffer: &mut [u8]) -> u32 {
+    unsafe { c::desk_copy_sheet(sheet.as_ptr(), sheet.len(), buffer.as_mut_ptr(), buffer.len()) }
+}
+
+/// The writer, on a station by its values (`trial`): 0, 7 or 8.
+pub fn write_sheet(values: &[u8; VALUES], buffer: &mut [u8]) -> u8 {
+    unsafe { c::trial_write_sheet(values.as_ptr(), values.len(), buffer.as_mut_ptr(), buffer.len()) }
+}
+
 pub fn record(record: &[u8]) -> u8 {
     unsafe { c::desk_record(record.as_ptr(), record.len()) }
 }
@@ -141,16 +155,7 @@ pub fn unit_fresh(desk: &mut [u8]) -> u8 {
 
 /// The code in the lowest byte, the minutes above it.
 pub fn unit_apply(sheet: &[u8], desk: &mut [u8], record: &[u8]) -> u64 {
-    unsafe {
-        c::unit_apply(
-            sheet.as_ptr(),
-            sheet.len(),
-            desk.as_mut_ptr(),
-            desk.len(),
-            record.as_ptr(),
-            record.len(),
-        )
-    }
+    unsafe { c::unit_apply(sheet.as_ptr(), sheet.len(), desk.as_mut_ptr(), desk.len(), record.as_ptr(), record.len()) }
 }
 
 /// Packed as by `movement`.

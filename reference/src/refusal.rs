@@ -1,8 +1,12 @@
-//! The refusals of the desk, the journal and the verdicts. 01: "Numbers the desk returns".
-//! Those of the sheet carry a record index and stand in `sheet`.
+//! The refusals of the desk, the journal and the verdicts. 01: "Numbers the desk returns". 7 and 8 are the writer's
+//! (02, M-100). Those of reading a sheet carry a record index and stand in `sheet`.
 
 #[derive(Clone, Copy, Debug, PartialEq, Eq)]
 pub enum Refusal {
+    /// A station that, as it stands, no sheet describes.
+    NoSheet = 7,
+    /// A buffer shorter than the sheet.
+    ShortBuffer = 8,
     RecordLength = 10,
     Kind = 11,
     Zone = 12,

@@ -3,10 +3,10 @@
 use crate::set::{holds, members, Set};
 use crate::station::{Drive, Route, Station, Turnout};
 
-const HEADER: usize = 8;
-const TURNOUT: usize = 3;
-const ROUTE: usize = 33;
-const NO_PARTNER: u8 = 255;
+pub(crate) const HEADER: usize = 8;
+pub(crate) const TURNOUT: usize = 3;
+pub(crate) const ROUTE: usize = 33;
+pub(crate) const NO_PARTNER: u8 = 255;
 
 /// Why a sheet is refused; a bad record comes with its index.
 #[derive(Clone, Copy, Debug, PartialEq, Eq)]

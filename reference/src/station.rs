@@ -18,7 +18,7 @@ pub struct Turnout {
     pub drive: Drive,
 }
 
-#[derive(Clone, Debug, PartialEq, Eq)]
+#[derive(Clone, Copy, Debug, Default, PartialEq, Eq)]
 pub struct Route {
     pub zone: u8,
     pub run_over: Set,

@@ -141,7 +141,16 @@ fn random_records(random: &mut Random, count: u32) -> Vec<[u8; RECORD]> {
 
 #[test]
 fn usage() {
-    for arguments in [&[][..], &["show-sheet"], &["show"], &["explain", "a"], &["make-sheet", "a", "b", "c"]] {
+    let wrong = [
+        &[][..],
+        &["show-sheet"],
+        &["show"],
+        &["explain", "a"],
+        &["make-sheet", "a", "b", "c"],
+        &["copy-sheet", "a"],
+        &["copy-sheet", "a", "b", "c"],
+    ];
+    for arguments in wrong {
         let output = workbench(arguments);
         assert_eq!(output.status.code(), Some(2));
         assert!(output.stdout.is_empty() && output.stderr.starts_with(b"usage:"));
@@ -213,6 +222,23 @@ fn random_sheets_there_and_back() {
         round_trip("random_sheet", "sheet", &sheet.bytes());
     }
     assert!(routes > 400, "{routes}");
+}
+
+/// 02, M-100: "a sheet that was read and written comes out byte for byte".
+#[test]
+fn sheets_copied() {
+    let folder = Folder::new("copied");
+    let smallest = Sheet::new(1).turnout(0, HAND);
+    for sheet in [station_k(), large_station(), largest_station(), smallest] {
+        let bytes = sheet.bytes();
+        let (given, copy) = (folder.file("given", &bytes), folder.file("copy", [7; 3000]));
+        assert_eq!(text(&["copy-sheet", &given, &copy]), format!("{copy}: {} bytes written\n", bytes.len()));
+        assert_eq!(fs::read(&copy).expect("written"), bytes);
+        text(&["copy-sheet", &given, &given]);
+        assert_eq!(fs::read(&given).expect("written"), bytes);
+    }
+    assert!(failure(&["copy-sheet", &folder.path("missing"), &folder.path("new")]).contains("missing: "));
+    assert!(!folder.0.join("new").exists());
 }
 
 #[test]
@@ -384,10 +410,13 @@ fn refused_files() {
     let journal_path = folder.file("journal", journal(&journal_k()));
     for (bytes, expected) in cases {
         let path = folder.file("sheet", bytes);
-        for arguments in [&["show-sheet", &path][..], &["explain", &path, &journal_path]] {
+        let copy = folder.path("copy");
+        let commands = [&["show-sheet", &path][..], &["explain", &path, &journal_path], &["copy-sheet", &path, &copy]];
+        for arguments in commands {
             let said = failure(arguments);
             assert!(said.starts_with(expected), "{said}");
         }
+        assert!(!folder.0.join("copy").exists());
     }
     let sheet_path = folder.file("sheet", &good);
     let path = folder.file("short", &journal(&journal_k())[..367]);

@@ -1,6 +1,6 @@
-// Runs stored cases through the desk and prints what it answers. The cases are in data/cases and the expected lines in stdout; both
-// were written by the further implementation of document 01, in reference/, which shares nothing with the desk. What is proved here
-// is that the program is safe and ends.
+// Runs stored cases through the desk and prints what it answers. The cases are in data/cases and the expected lines in
+// stdout; both were written by the further implementation of documents 01 and 02, in reference/, which shares nothing
+// with the desk. What is proved here is that the program is safe and ends.
 //
 // A case: its kind (1 byte), two numbers x and y (4 bytes each), the lengths of two parts a and b (2 bytes each), all big-endian; then
 // the parts. A line: the case's number from 1, and the numbers that its kind prints (stations.rt, messages.rt and journals.rt have the
@@ -35,7 +35,8 @@ fn case_at(s: &[u8]) -> Case {
     }
 }
 
-// Puts what a case of a record, a journal or a verdict answers: kinds 5 to 10. Any other kind answers nothing.
+// Puts what a case of a record, a journal, a verdict or a sheet written again answers: kinds 5 to 11. Any other kind
+// answers nothing.
 fn put_other(out: &mut [u8], at: usize, c: Case, a: &[u8], b: &[u8]) -> usize {
     let kind = c.kind;
     match kind {
@@ -45,6 +46,7 @@ fn put_other(out: &mut [u8], at: usize, c: Case, a: &[u8], b: &[u8]) -> usize {
         8 => journals::put_part(out, at, a, c.x),
         9 => journals::put_added(out, at, a, b),
         10 => stations::put_verdict(out, at, c.x),
+        11 => stations::put_copied(out, at, a, b),
         _ => at,
     }
 }

@@ -1,6 +1,9 @@
-// Cases of sheets, of a journal replayed, of both questions after it, and of verdicts.
+// Cases of sheets that are read, and read and written again; of a journal replayed, of both questions after it, and of
+// verdicts.
+use super::numbers::copied;
 use super::numbers::put_number;
 use super::numbers::put_two;
+use super::numbers::sum32;
 use zone::Regime;
 
 // Kind 1: the code of sheet a, and the index of its bad record.
@@ -78,4 +81,19 @@ pub fn put_verdict(out: &mut [u8], at: usize, x: u32) -> usize {
         signals::ruling_code(ruling) as u32,
         signals::ruling_verdict(ruling) as u32,
     )
+}
+
+// Puts the code and the index of reading sheet a and writing it into a buffer, and the sum of the buffer then.
+fn put_copy(out: &mut [u8], at: usize, a: &[u8], s: &mut [u8]) -> usize {
+    let found = sheet_writer::copy_sheet(a, s);
+    let next = put_two(out, at, found.code as u32, found.index as u32);
+    put_number(out, next, sum32(s))
+}
+
+// Kind 11: the code and the index of reading sheet a and writing it into buffer b, and the sum of the whole buffer
+// then. Of a longer b the first 2,400 bytes are the buffer; the longest sheet has 2,312.
+pub fn put_copied(out: &mut [u8], at: usize, a: &[u8], b: &[u8]) -> usize {
+    let mut buffer = [0u8; 2400];
+    let n = copied(b, &mut buffer);
+    put_copy(out, at, a, &mut buffer[..n])
 }

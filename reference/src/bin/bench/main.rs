@@ -6,7 +6,8 @@ mod stack;
 
 use reference::message::RECORD;
 use reference::unit::{self, DESK};
-use reference::{library, replay, sheet};
+use reference::writer::{self, RawStation};
+use reference::{library, replay, sheet, trial};
 use std::hint::black_box;
 use std::time::Instant;
 
@@ -75,9 +76,8 @@ fn one_by_one(records: &[[u8; RECORD]], mut apply: impl FnMut(&mut [u8], &[u8]) 
 /// has read it before.
 fn units<'a>(name: &'a str, sheet: &'a [u8], records: &'a [[u8; RECORD]], sheet_each_time: bool) -> Pair<'a> {
     let station = sheet::read(sheet).expect("a good sheet");
-    let by_library = move || {
-        one_by_one(records, |desk, record| library::unit_apply(black_box(sheet), desk, record) as u8)
-    };
+    let by_library =
+        move || one_by_one(records, |desk, record| library::unit_apply(black_box(sheet), desk, record) as u8);
     let by_reference = move || {
         one_by_one(records, |desk, record| match sheet_each_time {
             true => black_box(unit::apply(black_box(sheet), desk, record)).0,
@@ -93,6 +93,27 @@ fn units<'a>(name: &'a str, sheet: &'a [u8], records: &'a [[u8; RECORD]], sheet_
         }),
         reference: Box::new(move || {
             black_box(by_reference());
+        }),
+    }
+}
+
+/// A good sheet's station, handed over by its values, written.
+fn written<'a>(name: &'a str, sheet: &[u8]) -> Pair<'a> {
+    let station = RawStation::from(&sheet::read(sheet).expect("a good sheet"));
+    let values = trial::values(&station);
+    let mut by_library = vec![0; sheet.len()];
+    let mut by_reference = by_library.clone();
+    assert_eq!(library::write_sheet(&values, &mut by_library), 0);
+    assert_eq!(writer::write(&trial::station(&values), &mut by_reference), Ok(()));
+    assert_eq!((&by_library[..], &by_reference[..]), (sheet, sheet));
+    Pair {
+        name,
+        units: 1,
+        library: Box::new(move || {
+            black_box(library::write_sheet(black_box(&values), &mut by_library));
+        }),
+        reference: Box::new(move || {
+            black_box(writer::write(&trial::station(black_box(&values)), &mut by_reference).is_ok());
         }),
     }
 }
@@ -155,6 +176,7 @@ fn main() {
                 black_box(sheet::read(black_box(&large)).is_ok());
             }),
         },
+        written("largest sheet written", &large),
         verdicts(),
         units("unit_apply, station K, a message", &k, &records_k, true),
         units("  reference without reading its sheet", &k, &records_k, false),

@@ -1,5 +1,5 @@
 //! The comparisons: each call made of the library and of this implementation, on the same bytes.
-//! Those of journals stand in `journals`.
+//! Those of journals stand in `journals`, those of units in `units`, those of the writer in `writers`.
 
 use crate::lists::Talk;
 use crate::rng::Rng;
@@ -83,6 +83,8 @@ impl Comparison {
             let damaged = stations::damaged(&mut self.rng, &builder);
             self.sheet(&damaged)?;
         }
+        self.good_copies(&good)?;
+        self.stations()?;
         let station = sheet::read(&good).expect("the generator makes good sheets");
 
         let mut desk = Desk::fresh(&station);
@@ -136,6 +138,7 @@ impl Comparison {
         self.tally.code(reference as u8);
         let files = Files { sheet: bytes, journal: &[] };
         files.same(|| "desk_sheet(sheet)".into(), library::sheet(bytes), reference)?;
+        self.copy(bytes)?;
         if reference != 0 && self.rng.chance(10) {
             // A refused sheet refuses the calls above it, whatever the journal.
             let code = reference as u8;

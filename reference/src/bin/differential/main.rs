@@ -5,10 +5,12 @@ mod compare;
 mod demand;
 mod journals;
 mod lists;
+mod raw_stations;
 mod rng;
 mod stations;
 mod tally;
 mod units;
+mod writers;
 
 use compare::Comparison;
 use std::path::Path;

@@ -40,6 +40,12 @@ impl Rng {
         list[self.index(list.len())]
     }
 
+    /// One of the places, to be written to.
+    pub fn place<'p, T, const N: usize>(&mut self, places: [&'p mut T; N]) -> &'p mut T {
+        let n = self.index(N);
+        places.into_iter().nth(n).expect("an index of the places")
+    }
+
     /// One of the weighted choices.
     pub fn weighted<T: Copy>(&mut self, choices: &[(u32, T)]) -> T {
         let total: u32 = choices.iter().map(|(weight, _)| weight).sum();

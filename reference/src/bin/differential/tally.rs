@@ -1,8 +1,11 @@
 //! Counts of what occurred, so that a run that never met a code, kind, regime or verdict is no test.
 
-const CODES: [u8; 26] =
-    [0, 1, 2, 3, 4, 5, 6, 10, 11, 12, 13, 14, 15, 16, 17, 18, 19, 20, 21, 22, 30, 31, 32, 33, 60, 61];
+const CODES: [u8; 28] =
+    [0, 1, 2, 3, 4, 5, 6, 7, 8, 10, 11, 12, 13, 14, 15, 16, 17, 18, 19, 20, 21, 22, 30, 31, 32, 33, 60, 61];
 const HEARD: [u8; 13] = [0, 11, 12, 13, 14, 15, 16, 17, 18, 19, 20, 21, 22];
+/// Of the writer on a station, and of a sheet copied.
+const WRITTEN: [u8; 3] = [0, 7, 8];
+const COPIED: [u8; 8] = [0, 1, 2, 3, 4, 5, 6, 8];
 const REGIMES: [&str; 3] = ["held", "clear", "danger"];
 
 pub struct Tally {
@@ -13,6 +16,10 @@ pub struct Tally {
     pub questions: u64,
     /// Records heard by a unit.
     pub units: u64,
+    /// Stations written, by code.
+    written: [u64; 256],
+    /// Sheets copied, by code.
+    copied: [u64; 256],
     codes: [u64; 256],
     /// By kind (0 for none of the twelve) and code, of messages heard.
     answers: [[u64; 256]; 13],
@@ -28,6 +35,8 @@ impl Tally {
             lists: 0,
             questions: 0,
             units: 0,
+            written: [0; 256],
+            copied: [0; 256],
             codes: [0; 256],
             answers: [[0; 256]; 13],
             regimes: [0; 3],
@@ -53,6 +62,20 @@ impl Tally {
         self.code(code);
     }
 
+    /// A station handed to the writer.
+    pub fn written(&mut self, code: u8) {
+        self.inputs += 1;
+        self.code(code);
+        self.written[usize::from(code)] += 1;
+    }
+
+    /// A sheet copied from one buffer into another.
+    pub fn copied(&mut self, code: u8) {
+        self.inputs += 1;
+        self.code(code);
+        self.copied[usize::from(code)] += 1;
+    }
+
     pub fn movement(&mut self, [code, regime, ..]: [u8; 4]) {
         self.questions += 1;
         self.code(code);
@@ -75,11 +98,22 @@ impl Tally {
     /// Prints the counts; returns what never occurred.
     pub fn report(&self) -> Vec<String> {
         println!(
-            "inputs {}: heard {}, lists {}, questions beside them {}, records heard by a unit {}",
-            self.inputs, self.heard, self.lists, self.questions, self.units
+            "inputs {}: heard {}, lists {}, stations written {}, sheets copied {}; beside them questions {}, \
+             records heard by a unit {}",
+            self.inputs,
+            self.heard,
+            self.lists,
+            self.written.iter().sum::<u64>(),
+            self.copied.iter().sum::<u64>(),
+            self.questions,
+            self.units
         );
         let mut counts: Vec<(String, u64)> = Vec::new();
         counts.extend(CODES.iter().map(|&code| (format!("code {code}"), self.codes[usize::from(code)])));
+        let written = |code: &u8| (format!("station written, code {code}"), self.written[usize::from(*code)]);
+        counts.extend(WRITTEN.iter().map(written));
+        let copied = |code: &u8| (format!("sheet copied, code {code}"), self.copied[usize::from(*code)]);
+        counts.extend(COPIED.iter().map(copied));
         counts.extend((1..=12).map(|kind| (format!("kind {kind} accepted"), self.answers[kind][0])));
         counts.extend(REGIMES.iter().zip(self.regimes).map(|(regime, count)| (format!("regime {regime}"), count)));
         counts.extend((1..=6).map(|verdict| (format!("verdict {verdict}"), self.verdicts[verdict])));

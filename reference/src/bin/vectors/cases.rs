@@ -2,7 +2,7 @@
 
 use reference::message::{self, Message, RECORD};
 use reference::refusal::number;
-use reference::{builders, journal, replay, sheet};
+use reference::{builders, journal, replay, sheet, writer};
 
 #[derive(Default)]
 pub struct Cases {
@@ -162,5 +162,15 @@ impl Cases {
         assert_eq!(answer[1], verdict, "case {}", self.count + 1);
         let x = u32::from_be_bytes([0, line, signal, flags]);
         self.put(10, [x, 0], &[], &[], code, &numbers(&answer));
+    }
+
+    /// Op 11: a sheet copied into a buffer, with the code and index stated.
+    pub fn copied(&mut self, code: u8, index: u8, sheet: &[u8], buffer: &[u8]) {
+        let mut written = buffer.to_vec();
+        let answer = writer::copy_sheet(sheet, &mut written);
+        assert_eq!(answer[1], index, "case {}", self.count + 1);
+        assert!(code == 0 || written == buffer, "case {}", self.count + 1);
+        let line = [u32::from(answer[0]), u32::from(answer[1]), sum32(&written)];
+        self.put(11, [0, 0], sheet, buffer, code, &line);
     }
 }

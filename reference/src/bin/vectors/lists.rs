@@ -12,28 +12,6 @@ const DANGER: u8 = 2;
 /// The lowest turnout lacking a clearance, where none does.
 const NONE: u8 = 255;
 
-/// 64 turnouts, 64 routes, 8 zones. Zone z has turnouts 8z to 8z + 7: two crossovers (the first electric, the second
-/// by hand), then four alone. Each zone has eight routes.
-fn largest() -> Vec<u8> {
-    let mut sheet = Sheet::new(8);
-    for zone in 0..8 {
-        sheet = sheet.crossover(zone, ELECTRIC).crossover(zone, HAND);
-        sheet = sheet.turnout(zone, ELECTRIC).turnout(zone, HAND).turnout(zone, ELECTRIC).turnout(zone, HAND);
-    }
-    for n in 0..64 {
-        let (zone, shape) = (n / 8, n % 8);
-        let t = |k: u8| 8 * zone + k;
-        sheet = match shape {
-            0 => sheet.route(zone, &[t(0), t(1), t(4)], &[t(2), t(3)], &[t(5)], &[t(0), t(1)]),
-            1 => sheet.route(zone, &[t(0)], &[], &[t(7)], &[t(7)]),
-            2 => sheet.route(zone, &[t(5), t(6)], &[t(0), t(1)], &[t(2)], &[t(2), t(5)]),
-            3 => sheet.route(zone, &(0..8).map(t).collect::<Vec<_>>(), &[], &[], &[]),
-            _ => sheet.route(zone, &[t(shape)], &[t(2), t(3)], &[t(0)], &[]),
-        };
-    }
-    sheet.bytes()
-}
-
 /// A conversation in zones 0, 3 and 7 of the largest station.
 fn several_zones() -> Vec<Message> {
     vec![
@@ -128,7 +106,7 @@ pub fn add(cases: &mut Cases) {
     c.replay(11, &k, &journal_of(&[[0; 32]; 3])); // zeros
 
     // The largest station, several zones.
-    let large = largest();
+    let large = largest_station().bytes();
     let station = sheet::read(&large).expect("the largest station reads");
     assert_eq!((station.turnouts.len(), station.routes.len(), station.zones), (64, 64, 8));
     c.sheet(0, 0, &large); // good

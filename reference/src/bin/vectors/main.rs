@@ -2,6 +2,7 @@
 //! Every case states the code it is about; the program stops if this implementation gives another.
 
 mod cases;
+mod copies;
 mod journals;
 mod kinds;
 mod lists;
@@ -28,6 +29,7 @@ fn main() {
     lists::add(&mut cases);
     journals::add(&mut cases);
     signal_works::add(&mut cases);
+    copies::add(&mut cases);
     println!("{} cases, {} bytes; stdout {} bytes", cases.count, cases.bytes.len(), cases.stdout.len());
     assert!(cases.bytes.len() <= CASES_LIMIT && cases.stdout.len() <= STDOUT_LIMIT);
     let write = |name: &str, bytes: &[u8]| fs::write(Path::new(&folder).join(name), bytes);

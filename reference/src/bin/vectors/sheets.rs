@@ -5,7 +5,7 @@ use reference::builders::*;
 
 /// Two zones: crossovers 0-1 and 2-3 (electric) and 4 (hand) in zone 0, 5 and 6 in zone 1;
 /// route 0 is good, and the tests add a second.
-fn two_zones() -> Sheet {
+pub fn two_zones() -> Sheet {
     Sheet::new(2)
         .crossover(0, ELECTRIC)
         .crossover(0, ELECTRIC)

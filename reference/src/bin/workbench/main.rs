@@ -12,6 +12,7 @@ mod sheet_text;
 mod state;
 mod words;
 
+use reference::writer::{self, RawStation};
 use reference::{journal, sheet};
 use std::io::{self, Write};
 use std::{env, fs, process};
@@ -22,6 +23,7 @@ usage: workbench show-sheet SHEET              the sheet as text
        workbench make-sheet TEXT SHEET         such a text as a sheet
        workbench make-journal TEXT JOURNAL     such a text as a journal
        workbench explain SHEET JOURNAL         each record, its answer and what it leaves, in words
+       workbench copy-sheet SHEET OUT          the sheet read, and written again by the writer
 ";
 
 /// Why a command ends with 1.
@@ -41,6 +43,7 @@ fn main() {
         ["make-sheet", text, sheet] => make_sheet(text, sheet),
         ["make-journal", text, journal] => make_journal(text, journal),
         ["explain", sheet, journal] => explain_files(sheet, journal),
+        ["copy-sheet", sheet, out] => copy_sheet(sheet, out),
         _ => {
             eprint!("{USAGE}");
             process::exit(2);
@@ -104,6 +107,17 @@ fn explain_files(sheet_path: &str, journal_path: &str) -> Result<String, Failure
     let (sheet, journal) = (read_file(sheet_path)?, read_file(journal_path)?);
     let station = sheet::read(&sheet).map_err(|fault| Failure::Refused(refused::sheet(&sheet, fault)))?;
     explain::explain(&station, &journal).map_err(|_| Failure::Refused(refused::journal(&journal)))
+}
+
+/// Writes the station that was read, not the bytes it was read from.
+fn copy_sheet(path: &str, out: &str) -> Result<String, Failure> {
+    let bytes = read_file(path)?;
+    let station = sheet::read(&bytes).map_err(|fault| Failure::Refused(refused::sheet(&bytes, fault)))?;
+    let station = RawStation::from(&station);
+    let mut buffer = vec![0; station.sheet_length()];
+    let written = writer::write(&station, &mut buffer);
+    written.map_err(|refusal| Failure::Refused(refused::writing(&station, buffer.len(), refusal)))?;
+    write_file(out, &buffer)
 }
 
 fn read_file(path: &str) -> Result<Vec<u8>, Failure> {

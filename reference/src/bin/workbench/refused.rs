@@ -1,4 +1,4 @@
-//! Refused sheets, records and journals in words: the number, the rule, and what breaks it here.
+//! Refused sheets, stations, records and journals in words: the number, the rule, and what breaks it here.
 
 use crate::{kinds, words};
 use reference::builders::NO_PARTNER;
@@ -6,6 +6,7 @@ use reference::journal::{self, HEADER, MOST};
 use reference::message::{Message, RECORD};
 use reference::refusal::Refusal;
 use reference::sheet::{self, SheetFault};
+use reference::writer::RawStation;
 
 const SHEET_HEADER: usize = 8;
 const TURNOUT: usize = 3;
@@ -123,6 +124,16 @@ fn bad_route(bytes: &[u8], n: u8) -> Vec<String> {
     rules.into_iter().filter(|(met, _)| !met).map(|(_, broken)| broken).collect()
 }
 
+/// A station that is not written into a buffer of that length: 7 or 8.
+pub fn writing(station: &RawStation, buffer: usize, refusal: Refusal) -> String {
+    let number = refusal.number();
+    if refusal == Refusal::NoSheet {
+        return format!("refused by {number}: a station that, as it stands, no sheet describes");
+    }
+    let here = format!("{}; the sheet needs {}", words::count(buffer, "byte"), station.sheet_length());
+    with_here(format!("refused by {number}: a buffer shorter than the sheet"), vec![here])
+}
+
 /// A record that does not read: 11 or 13.
 pub fn record(record: &[u8], refusal: Refusal) -> String {
     let number = refusal.number();
@@ -163,4 +174,25 @@ fn bad_journal(bytes: &[u8]) -> Vec<String> {
         bad.push("the last seven bytes of the header are not zeros".to_string());
     }
     bad
+}
+
+#[cfg(test)]
+mod tests {
+    use super::*;
+    use reference::builders::station_k;
+    use reference::writer::write;
+
+    /// No command hands the writer such a station or such a buffer: only the words are tried here.
+    #[test]
+    fn words_of_the_writer() {
+        let said = |station: &RawStation, length: usize| {
+            let refusal = write(station, &mut vec![0; length]).expect_err("turned away");
+            writing(station, length, refusal)
+        };
+        let no_sheet = "refused by 7: a station that, as it stands, no sheet describes";
+        assert_eq!(said(&RawStation::empty(), 0), no_sheet);
+        let k = RawStation::from(&sheet::read(&station_k().bytes()).expect("station K reads"));
+        let short = "refused by 8: a buffer shorter than the sheet. Here: 49 bytes; the sheet needs 50";
+        assert_eq!(said(&k, 49), short);
+    }
 }

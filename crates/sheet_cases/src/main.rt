@@ -1,6 +1,7 @@
-// Tries the reader of station sheets (document 01, 'Station sheet') on worked sheets. The reader is proved to follow the rules in the
-// sheet crate's specs/; what this program writes shows that these rules accept and refuse the sheets that the document does.
-// The cases are in stdin and the expected lines in stdout, written from the document; no expected number stands here.
+// Tries the reader of station sheets (document 01, 'Station sheet') on worked sheets, and their writer (document 02,
+// M-100) on worked stations. Both are proved to follow the rules in the specs/ of their crates, sheet and
+// sheet_writer; what this program writes shows that these rules accept and refuse what the documents do.
+// The cases are in stdin and the expected lines in stdout, written from the documents; no expected number stands here.
 //
 // A line of the input that starts with # is a remark; an empty line ends the input. Any other line starts with a name and a number.
 // Number 1 to 4 names a sheet (sheets.rt: 1 station K, 2 a larger one, 3 and 4 the largest with 8 zones and with 1). Then come how
@@ -11,8 +12,18 @@
 // turnout; 15 what is tied to it; 16 the turnouts of a zone; 17 what a route names; 18 whether a set splits a crossover. Then come
 // a count, a partner and what is asked about. With count 0 the station is station K; else it is one that no sheet gave, with
 // this number for each count and this partner for each turnout. The output is the name and the answer.
+// Number 20 to 24 is a station that is written: 20 the empty one, every number 0; 21 to 24 the one that sheet 1 to 4
+// gives. Then come the length of the buffer, at most 2,400, and changes to the station, pairs of a place and the
+// number that is put there. Places 0, 1 and 2 are the counts of turnouts, routes and zones; 3 + 3n, 4 + 3n and 5 + 3n
+// the zone, partner and drive of turnout n (3 to 194); 195 + 5n to 199 + 5n the zone, run over, flank, exit zone and
+// reverse of route n (195 to 514). Any other place changes nothing. Counts, zones, partners and drives take the
+// number modulo 256; a number in the input has at most 4 digits. Before the call every byte of the buffer is 170. The
+// output is the name and three numbers: the code; how many bytes at the start of the buffer are then those of the
+// sheet before the changes (of no sheet for 20), up to the first that differs; and how many bytes of the rest of the
+// buffer are still 170.
 mod sheets;
 mod stations;
+mod writing;
 
 use case_rows::number_at;
 use case_rows::put_pairs;
@@ -34,12 +45,12 @@ fn write_reading(s: &[u8], base: u16) {
     write_number(r.index as u64);
 }
 
-// Writes what reading the first n bytes gives.
-fn write_part(s: &[u8], n: usize, base: u16) {
+// The first n bytes; all, if there are fewer.
+fn first<'a>(s: &'a [u8], n: usize) -> &'a [u8] {
     if s.len() < n {
-        return;
+        return s;
     }
-    write_reading(&s[..n], base);
+    &s[..n]
 }
 
 // The sheet to start from.
@@ -56,7 +67,7 @@ fn sheet_tried(input: &[u8], base: u16, at: usize) -> usize {
     let mut s = [0u8; 2312];
     sheets::put_base(&mut s, sheet_of(base));
     let next = put_pairs(&mut s, input, n.next);
-    write_part(&s, n.value as usize, base);
+    write_reading(first(&s, n.value as usize), base);
     next
 }
 
@@ -76,7 +87,10 @@ fn rest_tried(input: &[u8], at: usize) -> usize {
     if first.value < 10 {
         return sheet_tried(input, first.value, first.next);
     }
-    question_tried(input, first.value, first.next)
+    if first.value < 20 {
+        return question_tried(input, first.value, first.next);
+    }
+    writing::tried(input, first.value - 20, first.next)
 }
 
 // Tries the line at a place, if there is one and it is no remark; the place of the next line.

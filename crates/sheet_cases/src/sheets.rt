@@ -119,6 +119,17 @@ pub fn put_base(s: &mut [u8], base: u16) {
     }
 }
 
+// How many bytes the sheet has that a base number names.
+pub fn base_length(base: u16) -> usize {
+    match base {
+        1 => 50,
+        2 => 131,
+        3 => 2312,
+        4 => 2312,
+        _ => 0,
+    }
+}
+
 // The station that station K's sheet gives.
 pub fn station_k() -> station::Station {
     let mut s = [0u8; 50];

@@ -12,7 +12,9 @@ use Rattle.case_rows.specs.Rows.{repeated, byteAt, after, afterLetter}
 
 module _ {A : Type 0} (step : A → A) (n i : ℕ) {whole a : A} where
   -- what the steps from step i on give is what those after it give, once it is done
-  pub next-step : {b : A} → whole ≡ repeated (n - i) step a → i < n → b ≡ step a → whole ≡ repeated (n - (i + 1)) step b
+  pub next-step :
+      {b : A} → whole ≡ repeated (n - i) step a → i < n → b ≡ step a →
+      whole ≡ repeated (n - (i + 1)) step b
   unfolding repeated
   next-step e more done =
       let left : n - i ≡ suc (n - (i + 1)) = omega arith in
@@ -32,11 +34,15 @@ within (x ∷ s) zero d e h = refl
 within (x ∷ s) (suc at) d e h = within s at d e (le-of-suc-le-suc h)
 
 -- a step through a name stays within the text: past it no byte is part of a name
-letter-within : (s : List ℕ) (at : ℕ) → length s < 2 ^ 64 → at ≤ length s → (at ≤ afterLetter s at) × (afterLetter s at ≤ length s)
+letter-within :
+    (s : List ℕ) (at : ℕ) → length s < 2 ^ 64 → at ≤ length s →
+    (at ≤ afterLetter s at) × (afterLetter s at ≤ length s)
 unfolding afterLetter byteAt
 letter-within s at fits h = go (leb (byteAt s at) 32) refl (ltb at (length s)) refl
   where
-    go : (low : Bool) → leb (byteAt s at) 32 ≡ low → (more : Bool) → ltb at (length s) ≡ more → (at ≤ afterLetter s at) × (afterLetter s at ≤ length s)
+    go :
+        (low : Bool) → leb (byteAt s at) 32 ≡ low → (more : Bool) → ltb at (length s) ≡ more →
+        (at ≤ afterLetter s at) × (afterLetter s at ≤ length s)
     go true e more f = rw e (le-refl at, h)
     go false e true f =
         let here = ltb-true at (length s) f in
@@ -46,7 +52,9 @@ letter-within s at fits h = go (leb (byteAt s at) 32) refl (ltb at (length s)) r
         let ended : byteAt s at ≡ 10 = List·getD-eq-default s 10 (ltb-false at (length s) f) in
         absurd (omega (arith, ended, leb-false (byteAt s at) 32 e))
 
-pub name-within : (n : ℕ) (s : List ℕ) (at : ℕ) → length s < 2 ^ 64 → at ≤ length s → (at ≤ repeated n (afterLetter s) at) × (repeated n (afterLetter s) at ≤ length s)
+pub name-within :
+    (n : ℕ) (s : List ℕ) (at : ℕ) → length s < 2 ^ 64 → at ≤ length s →
+    (at ≤ repeated n (afterLetter s) at) × (repeated n (afterLetter s) at ≤ length s)
 unfolding repeated
 name-within zero s at fits h = (le-refl at, h)
 name-within (suc n) s at fits h =

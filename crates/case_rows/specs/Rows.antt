@@ -1,4 +1,5 @@
--- What the rows of a test program's input say: names, numbers, lines, and damage to a buffer. Bytes are ASCII.
+-- What the rows of a test program's input say: names, numbers, lines, and damage to a buffer. Bytes
+-- are ASCII.
 use mathlib.Core.Bool.{cond, not}
 use mathlib.Core.List.{List}
 use Prim.Native.Nat.{ℕ, zero, suc, _+_, _-_, _*_, _%_, _^_}
@@ -31,11 +32,14 @@ afterName s at = repeated 40 (afterLetter s) at
 unfoldable pub nameAt : List ℕ → ℕ → List ℕ
 nameAt s at = take (afterName s at - at) (drop at s)
 
--- a number with the digit (48 to 57) that stands after it, if one does; of the digits before it the last three are kept
+-- a number with the digit (48 to 57) that stands after it, if one does; of the digits before it the
+-- last three are kept
 unfoldable pub withDigit : List ℕ → Parsed → Parsed
 withDigit s n =
     let b = byteAt s (n .next) in
-    cond (ltb b 48) n (cond (ltb 57 b) n (record { value = n .value % 1000 * 10 + (b - 48); next = after (n .next) }))
+    cond (ltb b 48) n
+    (cond (ltb 57 b) n
+    (record { value = n .value % 1000 * 10 + (b - 48); next = after (n .next) }))
 
 -- the number after the byte at a place, which is a space: at most 4 digits; and the place after it
 unfoldable pub numberAt : List ℕ → ℕ → Parsed
@@ -58,13 +62,16 @@ pub record Damaged : Type 0 where
   pub place : ℕ
   pub bytes : List ℕ
 
--- one pair more, if a space stands here: a place of the buffer, and the number whose low 8 bits are stored there
+-- one pair more, if a space stands here: a place of the buffer, and the number whose low 8 bits are
+-- stored there
 unfoldable pub withPair : List ℕ → Damaged → Damaged
 withPair row d =
     let at = numberAt row (d .place) in
     let value = numberAt row (at .next) in
-    cond (not (eqb (byteAt row (d .place)) 32)) d (record { place = value .next; bytes = withByte (d .bytes) (at .value) (value .value % 256) })
+    cond (not (eqb (byteAt row (d .place)) 32)) d
+    (record { place = value .next; bytes = withByte (d .bytes) (at .value) (value .value % 256) })
 
--- a buffer with the damage that stands at a place of a row, at most 16 pairs; and the place after it
+-- a buffer with the damage that stands at a place of a row, at most 16 pairs; and the place after
+-- it
 unfoldable pub withPairs : List ℕ → List ℕ → ℕ → Damaged
 withPairs s row at = repeated 16 (withPair row) (record { place = at; bytes = s })

@@ -1,6 +1,6 @@
-// The rows of a test program's input: the name that a row starts with, and its numbers, with a space before each. They are read
-// from a place on; a place past the end reads as the end of a line. The last numbers of a row may be damage: pairs of a place and the
-// byte that is put there. The rules are in specs/Rows.antt.
+// The rows of a test program's input: the name that a row starts with, and its numbers, with a space before each.
+// They are read from a place on; a place past the end reads as the end of a line. The last numbers of a row may be
+// damage: pairs of a place and the byte that is put there. The rules are in specs/Rows.antt.
 ghost use mathlib.Core.Path.{_≡_};
 ghost use Rattle.case_rows.specs.Rows.{byteAt, after, afterLetter, afterName, nameAt, withDigit, numberAt};
 ghost use Rattle.case_rows.specs.Rows.{towardsEnd, afterLine, withByte, withPair, withPairs};
@@ -129,7 +129,10 @@ pub fn put(s: &mut [u8], at: usize, value: u8)
 
 // Stores the damage at a place, if there is more; the place after it.
 fn put_pair(s: &mut [u8], input: &[u8], at: usize) -> usize
-    ensures { λ r. ⌜ record { place = r; bytes = now (s .exit) } ≡ withPair (now (input .entry)) (record { place = at; bytes = now (s .entry) }) ⌝ }
+    ensures { λ r. ⌜
+        record { place = r; bytes = now (s .exit) }
+        ≡ withPair (now (input .entry)) (record { place = at; bytes = now (s .entry) })
+        ⌝ }
 {
     if byte_at(input, at) != b' ' {
         return at;
@@ -142,7 +145,10 @@ fn put_pair(s: &mut [u8], input: &[u8], at: usize) -> usize
 
 // Stores the damage from a place on, at most 16 pairs; the place after it.
 pub fn put_pairs(s: &mut [u8], input: &[u8], at: usize) -> usize
-    ensures { λ r. ⌜ record { place = r; bytes = now (s .exit) } ≡ withPairs (now (s .entry)) (now (input .entry)) at ⌝ }
+    ensures { λ r. ⌜
+        record { place = r; bytes = now (s .exit) }
+        ≡ withPairs (now (s .entry)) (now (input .entry)) at
+        ⌝ }
 {
     let mut next = at;
     let mut i: usize = 0;

@@ -1,5 +1,5 @@
--- The desk: its zones, hearing a message, hearing bytes as a record. Document 01, 'Message record' and the order of all checks:
--- 10, 11, 13, 12, 14, then those of the kind.
+-- The desk: its zones, hearing a message, hearing bytes as a record. Document 01, 'Message record'
+-- and the order of all checks: 10, 11, 13, 12, 14, then those of the kind.
 use mathlib.Core.Bool.{Bool, cond, not}
 use mathlib.Core.List.{List}
 use Prim.Native.Nat.{ℕ}
@@ -32,7 +32,11 @@ refusedBy d number = record { code = number; minutes = 0; desk = d }
 
 -- the desk with zone n as an answer leaves it
 abbrev pub putBack : Desk → ℕ → Answer → Applied
-putBack d n a = record { code = a .code; minutes = a .minutes; desk = record { zones = set (d .zones) n (a .zone) } }
+putBack d n a = record {
+  code = a .code;
+  minutes = a .minutes;
+  desk = record { zones = set (d .zones) n (a .zone) };
+}
 
 -- 12, "zone not below Z"
 abbrev pub noSuchZone : Station → Message → Bool
@@ -47,13 +51,17 @@ reached st d m =
 unfoldable pub applied : Station → Desk → Message → Applied
 applied st d m = cond (not (eqb (fieldNumber m) 0)) (refusedBy d (fieldNumber m)) (reached st d m)
 
--- "A record is first read into a message, or refused (10, 11, 13, in that order); only then does the desk check 12, 14 and the rest."
+-- "A record is first read into a message, or refused (10, 11, 13, in that order); only then does
+-- the desk check 12, 14 and the rest."
 unfoldable pub appliedRecord : Station → Desk → List ℕ → Applied
 appliedRecord st d s =
-    cond (eqb (readRecord s .code) 0) (reached st d (readRecord s .message)) (refusedBy d (readRecord s .code))
+    cond (eqb (readRecord s .code) 0)
+    (reached st d (readRecord s .message))
+    (refusedBy d (readRecord s .code))
 
--- The same in one zone, for whoever keeps the zones himself, of a message that keeps the field rules: the place of a message's zone in the
--- desk, 0 where the station has none such, and the answer of the zone in that place, the routes that bear on the message being given or the
+-- The same in one zone, for whoever keeps the zones himself, of a message that keeps the field
+-- rules: the place of a message's zone in the desk, 0 where the station has none such, and the
+-- answer of the zone in that place, the routes that bear on the message being given or the
 -- station's. The law `reached-in-place` says that putting the zone back is hearing by the desk.
 unfoldable pub zonePlace : Station → Message → ℕ
 zonePlace st m = cond (noSuchZone st m) 0 (m .zone)

@@ -24,7 +24,8 @@ movementRefused number = record { code = number; regime = Held; lowest = 255; co
 abbrev pub lowestOf : ℕ → ℕ
 lowestOf s = cond (isEmpty s) 255 (lowest s)
 
--- "Movement (zone, train): the regime, the lowest-numbered turnout still lacking one, and how many lack one (255 and 0 if none)."
+-- "Movement (zone, train): the regime, the lowest-numbered turnout still lacking one, and how many
+-- lack one (255 and 0 if none)."
 abbrev pub movementIn : Station → Zone → ℕ → MovementAnswer
 movementIn st z train =
     cond (not (isStanding (movementUnder z train))) (movementRefused 15)
@@ -39,8 +40,8 @@ unfoldable pub movementAnswered : Station → Desk → ℕ → ℕ → MovementA
 movementAnswered st d zone train =
     cond (not (ltb zone (zoneCount st))) (movementRefused 12) (movementIn st (zoneAt d zone) train)
 
--- "Work (turnout): yes if open to work, else no", refused "by 13 for a turnout not below P, and returns no". The house: a turnout
--- whose zone is not below Z is not open.
+-- "Work (turnout): yes if open to work, else no", refused "by 13 for a turnout not below P, and
+-- returns no". The house: a turnout whose zone is not below Z is not open.
 unfoldable pub workAnswered : Station → Desk → ℕ → WorkAnswer
 workAnswered st d n =
     cond (not (ltb n (turnoutCount st))) (record { code = 13; yes = false })

@@ -1,8 +1,18 @@
-// The works desk: it hears messages and records, and answers two questions. The rules are in specs/: Desk.antt (hearing) and
-// Questions.antt; the kinds are in the crate `rules`. Every function takes any station and any desk value.
+// The works desk: it hears messages and records, and answers two questions. The rules are in specs/: Desk.antt
+// (hearing) and Questions.antt; the kinds are in the crate `rules`. Every function takes any station and any desk
+// value.
 ghost use mathlib.Core.Path.{_≡_};
 ghost use Prim.Native.Nat.{_<_};
-ghost use Rattle.desk.specs.Desk.{freshDesk, refusedBy, reached, applied, appliedRecord, zonePlace, zoneHearsOn, zoneHears};
+ghost use Rattle.desk.specs.Desk.{
+  freshDesk,
+  refusedBy,
+  reached,
+  applied,
+  appliedRecord,
+  zonePlace,
+  zoneHearsOn,
+  zoneHears,
+};
 ghost use Rattle.desk.specs.Questions.{movementRefused, lowestOf, movementIn, movementAnswered, workAnswered};
 use message::Message;
 use message::Reading;
@@ -30,8 +40,8 @@ pub struct Applied {
     pub desk: Desk,
 }
 
-// The answer to the movement question: the regime, the lowest-numbered turnout that lacks a clearance (255 if none), and how
-// many lack one.
+// The answer to the movement question: the regime, the lowest-numbered turnout that lacks a clearance (255 if none),
+// and how many lack one.
 pub struct MovementAnswer {
     pub code: u8,
     pub regime: Regime,
@@ -83,8 +93,8 @@ pub fn zone_place(st: Station, m: Message) -> usize
     n
 }
 
-// A message that keeps the field rules, heard by the zone in its place, the routes that bear on it being given: 12 for a zone that the
-// station has not, else as the zone hears it.
+// A message that keeps the field rules, heard by the zone in its place, the routes that bear on it being given: 12
+// for a zone that the station has not, else as the zone hears it.
 pub fn zone_hears_on(st: Station, routes: Concerned, z: Zone, m: Message) -> Answer
     ensures { λ r. ⌜ r ≡ zoneHearsOn st routes z m ⌝ }
 {

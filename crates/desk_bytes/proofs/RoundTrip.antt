@@ -1,5 +1,6 @@
--- A desk, encoded and decoded, is the same desk, for every desk that code can hold: eight zones, numbers of their machine types. Bytes
--- that are a desk's are the encoding of the desk that stands in them.
+-- A desk, encoded and decoded, is the same desk, for every desk that code can hold: eight zones,
+-- numbers of their machine types. Bytes that are a desk's are the encoding of the desk that stands
+-- in them.
 use mathlib.Core.Path.{_≡_, refl, ap, _∙_}
 use mathlib.Core.Bool.{Bool, true, false, cond}
 use mathlib.Core.Logic.{_↔_}
@@ -18,7 +19,9 @@ use Rattle.zone.specs.declared.Zone.{Zone}
 use Rattle.desk.specs.declared.Desk.{Desk}
 use Rattle.zone.specs.Zone.{noZone}
 use Rattle.desk.specs.Desk.{zoneAt}
-use Rattle.desk_bytes.specs.Encoding.{workBytes, movementBytes, lastBytes, zoneBytes, zonesFrom, deskBytes, workIn, movementIn, zoneIn, deskIn, isDesk}
+use Rattle.desk_bytes.specs.Encoding.{workBytes, movementBytes, lastBytes, zoneBytes}
+use Rattle.desk_bytes.specs.Encoding.{zonesFrom, deskBytes, workIn, movementIn, zoneIn}
+use Rattle.desk_bytes.specs.Encoding.{deskIn, isDesk}
 use Rattle.desk_bytes.proofs.Same.{same-exactly}
 use Rattle.desk_bytes.specs.Typed.{TypedWork, TypedMovement, TypedZone, TypedDesk}
 use Rattle.desk_bytes.proofs.Typed.{decoded-typed}
@@ -40,16 +43,30 @@ work-read (Agreed g) fits rest =
     let set = value-bytes 8 (g .set) ∙ mod-eq-of-lt (fits .set) in
     let since = value-bytes 4 (g .since) ∙ mod-eq-of-lt (fits .since) in
     let opened = value-bytes 8 (g .opened) ∙ mod-eq-of-lt (fits .opened) in
-    λ i. Agreed (record { form = form i; manner = g .manner; set = set i; since = since i; opened = opened i })
+    λ i. Agreed (record {
+      form = form i;
+      manner = g .manner;
+      set = set i;
+      since = since i;
+      opened = opened i;
+    })
 
-movement-read : (w : Work) (v : Movement) → TypedMovement v → (rest : List ℕ) → movementIn (workBytes w ++ (movementBytes v ++ rest)) 26 ≡ v
+movement-read :
+    (w : Work) (v : Movement) → TypedMovement v → (rest : List ℕ) →
+    movementIn (workBytes w ++ (movementBytes v ++ rest)) 26 ≡ v
 unfolding movementIn workBytes movementBytes
 movement-read w NoMovement fits rest = refl
 movement-read w (Standing p) fits rest =
     let train = value-bytes 4 (p .train) ∙ mod-eq-of-lt (fits .train) in
     let cleared = value-bytes 8 (p .cleared) ∙ mod-eq-of-lt (fits .cleared) in
     let efficient = value-bytes 8 (p .efficient) ∙ mod-eq-of-lt (fits .efficient) in
-    λ i. Standing (record { train = train i; route = p .route; order = p .order; cleared = cleared i; efficient = efficient i })
+    λ i. Standing (record {
+      train = train i;
+      route = p .route;
+      order = p .order;
+      cleared = cleared i;
+      efficient = efficient i;
+    })
 
 recorder-read : (working : Bool) → eqb (cond working 1 0) 1 ≡ working
 recorder-read true = refl
@@ -58,8 +75,9 @@ recorder-read false = refl
 zone-read : (z : Zone) → TypedZone z → (rest : List ℕ) → zoneIn (zoneBytes z ++ rest) 0 ≡ z
 unfolding zoneIn zoneBytes workBytes movementBytes lastBytes
 zone-read z fits rest =
-    let work = work-read (z .work) (fits .work) (movementBytes (z .movement) ++ (lastBytes (z .recorder) (z .time) ++ rest)) in
-    let movement = movement-read (z .work) (z .movement) (fits .movement) (lastBytes (z .recorder) (z .time) ++ rest) in
+    let last = lastBytes (z .recorder) (z .time) ++ rest in
+    let work = work-read (z .work) (fits .work) (movementBytes (z .movement) ++ last) in
+    let movement = movement-read (z .work) (z .movement) (fits .movement) last in
     let recorder = recorder-read (z .recorder) in
     let time = value-bytes 4 (z .time) ∙ mod-eq-of-lt (fits .time) in
     λ i. record { work = work i; movement = movement i; recorder = recorder i; time = time i }
@@ -89,7 +107,9 @@ zonesAt-all [] = refl
 zonesAt-all (z ∷ l) = ap (λ (r : List Zone). z ∷ r) (zonesAt-next z l 0 (length l) ∙ zonesAt-all l)
 
 -- zone k, read where the zones from k on begin
-zone-back : (d : Desk) → TypedDesk d → (at k n : ℕ) → drop at (deskBytes d) ≡ zonesFrom d k (suc n) → zoneIn (deskBytes d) at ≡ zoneAt d k
+zone-back :
+    (d : Desk) → TypedDesk d → (at k n : ℕ) → drop at (deskBytes d) ≡ zonesFrom d k (suc n) →
+    zoneIn (deskBytes d) at ≡ zoneAt d k
 unfolding zonesFrom
 zone-back d fits at k n rest =
     zone-from at (deskBytes d) ∙ ap (λ (s : List ℕ). zoneIn s 0) rest
@@ -115,7 +135,8 @@ decoded-encoded d fits =
 -- what a desk encodes to is told to be a desk
 pub encoded-is-desk : (d : Desk) → TypedDesk d → isDesk (deskBytes d) ≡ true
 unfolding isDesk
-encoded-is-desk d fits = rw (decoded-encoded d fits) (same-exactly (deskBytes d) (deskBytes d) .1 refl)
+encoded-is-desk d fits =
+    rw (decoded-encoded d fits) (same-exactly (deskBytes d) (deskBytes d) .1 refl)
 
 -- and what is told to be a desk is the encoding of the desk that stands in it
 pub desk-encodes : (s : List ℕ) → isDesk s ≡ true → s ≡ deskBytes (deskIn s)
@@ -126,7 +147,8 @@ pub desk-length : (s : List ℕ) → isDesk s ≡ true → length s ≡ 520
 desk-length s told = ap length (desk-encodes s told) ∙ length-deskBytes (deskIn s)
 
 -- bytes are told to be a desk exactly when some desk encodes to them
-pub desk-exactly : (s : List ℕ) → Bytes s → (isDesk s ≡ true) ↔ ((d : Desk) × TypedDesk d × (s ≡ deskBytes d))
+pub desk-exactly :
+    (s : List ℕ) → Bytes s → (isDesk s ≡ true) ↔ ((d : Desk) × TypedDesk d × (s ≡ deskBytes d))
 desk-exactly s byte = (
   λ told. (deskIn s, decoded-typed s byte, desk-encodes s told),
   λ e. ap isDesk (e .2) ∙ encoded-is-desk (e .0) (e .1),

@@ -26,7 +26,9 @@ pub same-exactly : (xs ys : List ℕ) → (sameBytes xs ys ≡ true) ↔ (xs ≡
 same-exactly xs ys = (same-lists xs ys, λ e. ap (sameBytes xs) (sym e) ∙ same-self xs)
 
 -- an answer that is true exactly when the lists are the same is the test
-pub same-test : (r : Bool) (xs ys : List ℕ) → (r ≡ true → xs ≡ ys) → (xs ≡ ys → r ≡ true) → r ≡ sameBytes xs ys
+pub same-test :
+    (r : Bool) (xs ys : List ℕ) → (r ≡ true → xs ≡ ys) → (xs ≡ ys → r ≡ true) →
+    r ≡ sameBytes xs ys
 same-test r xs ys told tells = go r refl (sameBytes xs ys) refl
   where
     go : (b : Bool) → r ≡ b → (q : Bool) → sameBytes xs ys ≡ q → r ≡ sameBytes xs ys

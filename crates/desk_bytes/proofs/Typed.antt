@@ -25,10 +25,17 @@ pub work-typed : (s : List ℕ) (at : ℕ) → Bytes s → TypedWork (workIn s a
 unfolding workIn
 work-typed s at byte = go (eqb (byteAt s at) 1) refl (eqb (byteAt s at) 2) refl
   where
-    go : (one : Bool) → eqb (byteAt s at) 1 ≡ one → (two : Bool) → eqb (byteAt s at) 2 ≡ two → TypedWork (workIn s at)
+    go :
+        (one : Bool) → eqb (byteAt s at) 1 ≡ one → (two : Bool) → eqb (byteAt s at) 2 ≡ two →
+        TypedWork (workIn s at)
     go true p two q =
         rw p
-        (record { form = number-lt 4 s (at + 2) byte; set = number-lt 8 s (at + 6) byte; since = lit< tt; opened = lit< tt })
+        (record {
+          form = number-lt 4 s (at + 2) byte;
+          set = number-lt 8 s (at + 6) byte;
+          since = lit< tt;
+          opened = lit< tt;
+        })
     go false p true q =
         rw (p, q)
         (record {
@@ -76,7 +83,9 @@ each-next z l first rest (suc n) = rest n
 zones-typed : (s : List ℕ) → Bytes s → (places : List ℕ) → Each (map (zoneIn s) places)
 zones-typed s byte [] = each-none
 zones-typed s byte (at ∷ places) =
-    each-next (zoneIn s at) (map (zoneIn s) places) (zone-typed s at byte) (zones-typed s byte places)
+    each-next (zoneIn s at) (map (zoneIn s) places)
+    (zone-typed s at byte)
+    (zones-typed s byte places)
 
 pub decoded-typed : (s : List ℕ) → Bytes s → TypedDesk (deskIn s)
 unfolding deskIn

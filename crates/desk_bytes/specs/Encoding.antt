@@ -1,5 +1,5 @@
--- A desk as 520 bytes, and the desk that stands in bytes. Numbers are big-endian, as document 01 has them; fields that the
--- stage of the work, or a zone without a movement, does not have are 0.
+-- A desk as 520 bytes, and the desk that stands in bytes. Numbers are big-endian, as document 01
+-- has them; fields that the stage of the work, or a zone without a movement, does not have are 0.
 use mathlib.Core.Bool.{Bool, true, false, cond, _&&_}
 use mathlib.Core.List.{List, [], _∷_, _++_}
 use Prim.Native.Nat.{ℕ, zero, suc, _+_, _*_}
@@ -17,8 +17,8 @@ use Rattle.zone.specs.Movement.{trainOf, orderOf, clearedSet, efficientSet}
 use Rattle.desk.specs.declared.Desk.{Desk}
 use Rattle.desk.specs.Desk.{zoneAt}
 
--- the work of a zone, 26 bytes: its stage, the manner, the form (4 bytes), the turnouts (8), when it was agreed to (4), the turnouts
--- open to work (8)
+-- the work of a zone, 26 bytes: its stage, the manner, the form (4 bytes), the turnouts (8), when
+-- it was agreed to (4), the turnouts open to work (8)
 abbrev pub workFields : ℕ → ℕ → ℕ → ℕ → ℕ → ℕ → List ℕ
 workFields stage manner form set since opened =
     stage ∷ manner ∷ (beBytes 4 form ++ (beBytes 8 set ++ (beBytes 4 since ++ beBytes 8 opened)))
@@ -32,8 +32,8 @@ stageOf (Agreed g) = 2
 unfoldable pub workBytes : Work → List ℕ
 workBytes w = workFields (stageOf w) (manner w) (formOf w) (workSet w) (agreedAt w) (openSet w)
 
--- the movement of a zone, 23 bytes: whether one stands, the route, the order, the train (4 bytes), the turnouts cleared for it (8),
--- those of them that are efficient (8)
+-- the movement of a zone, 23 bytes: whether one stands, the route, the order, the train (4 bytes),
+-- the turnouts cleared for it (8), those of them that are efficient (8)
 abbrev pub movementFields : ℕ → ℕ → ℕ → ℕ → ℕ → ℕ → List ℕ
 movementFields standing route order train cleared efficient =
     standing ∷ route ∷ order ∷ (beBytes 4 train ++ (beBytes 8 cleared ++ beBytes 8 efficient))
@@ -48,7 +48,9 @@ routeNumber NoMovement = 0
 routeNumber (Standing p) = p .route
 
 unfoldable pub movementBytes : Movement → List ℕ
-movementBytes v = movementFields (standingOf v) (routeNumber v) (orderOf v) (trainOf v) (clearedSet v) (efficientSet v)
+movementBytes v =
+    movementFields (standingOf v) (routeNumber v) (orderOf v)
+    (trainOf v) (clearedSet v) (efficientSet v)
 
 -- the recorder (1 while it works), the last accepted time (4 bytes), 10 reserved bytes
 unfoldable pub lastBytes : Bool → ℕ → List ℕ
@@ -57,7 +59,8 @@ lastBytes working time = cond working 1 0 ∷ (beBytes 4 time ++ replicate 10 0)
 -- a zone, 64 bytes
 unfoldable pub zoneBytes : Zone → List ℕ
 unfolding workBytes movementBytes lastBytes
-zoneBytes z = workBytes (z .work) ++ (movementBytes (z .movement) ++ lastBytes (z .recorder) (z .time))
+zoneBytes z =
+    workBytes (z .work) ++ (movementBytes (z .movement) ++ lastBytes (z .recorder) (z .time))
 
 -- n zones from zone k on
 unfoldable pub zonesFrom : Desk → ℕ → ℕ → List ℕ
@@ -84,7 +87,11 @@ storedZone s k z = cond (ltb k 8) (sets s (8 + 64 * k) (zoneBytes z)) s
 unfoldable pub workIn : List ℕ → ℕ → Work
 workIn s at =
     cond (eqb (byteAt s at) 1)
-    (Asked (record { form = numberAt 4 s (at + 2); manner = byteAt s (at + 1); set = numberAt 8 s (at + 6) }))
+    (Asked (record {
+      form = numberAt 4 s (at + 2);
+      manner = byteAt s (at + 1);
+      set = numberAt 8 s (at + 6);
+    }))
     (cond (eqb (byteAt s at) 2)
     (Agreed (record {
       form = numberAt 4 s (at + 2);
@@ -121,7 +128,8 @@ zoneIn s at = record {
 unfoldable pub deskIn : List ℕ → Desk
 deskIn s = record {
   zones =
-      zoneIn s 8 ∷ zoneIn s 72 ∷ zoneIn s 136 ∷ zoneIn s 200 ∷ zoneIn s 264 ∷ zoneIn s 328 ∷ zoneIn s 392 ∷ zoneIn s 456 ∷ [];
+      zoneIn s 8 ∷ zoneIn s 72 ∷ zoneIn s 136 ∷ zoneIn s 200
+      ∷ zoneIn s 264 ∷ zoneIn s 328 ∷ zoneIn s 392 ∷ zoneIn s 456 ∷ [];
 }
 
 -- two lists of bytes are the same

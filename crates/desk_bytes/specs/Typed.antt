@@ -1,4 +1,5 @@
--- Desks whose numbers of several bytes are of their machine types, as those of every desk are that code holds.
+-- Desks whose numbers of several bytes are of their machine types, as those of every desk are that
+-- code holds.
 use mathlib.Core.Path.{_≡_}
 use Prim.Native.Nat.{ℕ, _^_, _<_}
 use lib.ListN.{length}

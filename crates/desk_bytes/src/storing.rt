@@ -70,7 +70,10 @@ fn put_movement_fields(
     efficient: u64,
 )
     requires { ⌜ at < 4096 ⌝ }
-    ensures { λ r. ⌜ now (s .exit) ≡ sets (now (s .entry)) at (movementFields standing route order train cleared efficient) ⌝ }
+    ensures { λ r. ⌜
+        now (s .exit)
+        ≡ sets (now (s .entry)) at (movementFields standing route order train cleared efficient)
+        ⌝ }
 {
     bigendian::put8(s, at, standing);
     bigendian::put8(s, at + 1, route);

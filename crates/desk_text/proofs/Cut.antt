@@ -1,5 +1,5 @@
--- What the program's buffers cut off changes nothing: a sheet longer than 4,096 bytes is refused by the same number, and what stands after
--- 16 + 32 x 1,024 bytes of a journal is not looked at.
+-- What the program's buffers cut off changes nothing: a sheet longer than 4,096 bytes is refused by
+-- the same number, and what stands after 16 + 32 x 1,024 bytes of a journal is not looked at.
 use mathlib.Core.Bool.{Bool, true, false, _&&_, and-eq-true-iff}
 use mathlib.Core.List.{List, [], _∷_}
 use mathlib.Core.Path.{_≡_, refl, sym, ap, ap₂, _∙_}
@@ -10,10 +10,12 @@ use lib.ListN.{length, getD, take, drop}
 use lib.Seq.{length-take-le, take-all, take-take, getD-take}
 use borrow.Author.Tests.{leb-true, leb-false, le-leb, le-ltb, ne-eqb}
 use Rattle.bigendian.specs.BigEndian.{numberAt}
-use Rattle.layout.specs.Layout.{hasMark, version, versionKept, countP, countR, countZ, countsKept, sheetLength, headerNumber}
+use Rattle.layout.specs.Layout.{hasMark, version, versionKept, countP, countR, countZ, countsKept}
+use Rattle.layout.specs.Layout.{sheetLength, headerNumber}
 use Rattle.sheet.specs.Sheet.{readSheet}
 use Rattle.journal.specs.Journal as Journal
-use Rattle.journal.specs.Journal.{storedCount, zerosKept, isJournal, journalNumber, counted, recordPlace, recordsFrom, records}
+use Rattle.journal.specs.Journal.{storedCount, zerosKept, isJournal, journalNumber, counted}
+use Rattle.journal.specs.Journal.{recordPlace, recordsFrom, records}
 use Rattle.journal.proofs.Good.{good-journal}
 use Rattle.replay.specs.Replay.{inputsOf, replayed}
 use Rattle.message.specs.Record.{WriteAnswer}
@@ -74,7 +76,8 @@ module _ (s : List ℕ) (long : 4096 < length s) where
   refused-alike : (headerNumber (take 4096 s) ≡ headerNumber s) × (eqb (headerNumber s) 0 ≡ false)
   unfolding headerNumber
   refused-alike =
-      go (hasMark s) refl (versionKept (version s)) refl (countsKept (countP s) (countR s) (countZ s)) refl
+      go (hasMark s) refl (versionKept (version s)) refl
+      (countsKept (countP s) (countR s) (countZ s)) refl
     where
       h : Same s
       h = same-header s
@@ -88,13 +91,29 @@ module _ (s : List ℕ) (long : 4096 < length s) where
           → (counts : Bool) → countsKept (countP s) (countR s) (countZ s) ≡ counts
           → (headerNumber (take 4096 s) ≡ headerNumber s) × (eqb (headerNumber s) 0 ≡ false)
       go false p kept q counts t = (rw (cut-length, not-short, h .mark, p), rw (not-short, p))
-      go true p false q counts t = (rw (cut-length, not-short, h .mark, p, h .first-version, q), rw (not-short, p, q))
-      go true p true q false t =
-          (rw (cut-length, not-short, h .mark, p, h .first-version, q, h .p, h .r, h .z, t), rw (not-short, p, q, t))
+      go true p false q counts t =
+          (rw (cut-length, not-short, h .mark, p, h .first-version, q), rw (not-short, p, q))
+      go true p true q false t = (
+        rw (cut-length, not-short, h .mark, p, h .first-version, q, h .p, h .r, h .z, t),
+        rw (not-short, p, q, t),
+      )
       go true p true q true t =
           let longer = too-long s (length s) (omega (arith, long)) t in
           let cut = too-long s 4096 (omega arith) t in (
-            rw (cut-length, not-short, h .mark, p, h .first-version, q, h .p, h .r, h .z, t, cut, longer),
+            rw (
+              cut-length,
+              not-short,
+              h .mark,
+              p,
+              h .first-version,
+              q,
+              h .p,
+              h .r,
+              h .z,
+              t,
+              cut,
+              longer,
+            ),
             rw (not-short, p, q, t, longer),
           )
 
@@ -109,7 +128,9 @@ sheet-cut s = go (leb (length s) 4096) refl
         rw (alike .0, alike .1)
 
 -- a test that fails makes the others of no account
-too-many : (mark first zeros x y : Bool) → (mark && first && false && zeros && x) ≡ (mark && first && false && zeros && y)
+too-many :
+    (mark first zeros x y : Bool) →
+    (mark && first && false && zeros && x) ≡ (mark && first && false && zeros && y)
 too-many true true zeros x y = refl
 too-many true false zeros x y = refl
 too-many false first zeros x y = refl
@@ -117,7 +138,8 @@ too-many false first zeros x y = refl
 -- two journals with the same header
 module _ (t s : List ℕ) (byte : (i : ℕ) → i < 16 → getD t i 0 ≡ getD s i 0) where
   same-count : storedCount t ≡ storedCount s
-  same-count = rw (byte 5 (omega arith), byte 6 (omega arith), byte 7 (omega arith), byte 8 (omega arith))
+  same-count =
+      rw (byte 5 (omega arith), byte 6 (omega arith), byte 7 (omega arith), byte 8 (omega arith))
 
   same-mark : Journal.hasMark t ≡ Journal.hasMark s
   same-mark = rw (byte 0 (omega arith), byte 1 (omega arith), byte 2 (omega arith))
@@ -126,7 +148,8 @@ module _ (t s : List ℕ) (byte : (i : ℕ) → i < 16 → getD t i 0 ≡ getD s
   same-version = rw (byte 3 (omega arith), byte 4 (omega arith))
 
   same-four : numberAt 4 t 9 ≡ numberAt 4 s 9
-  same-four = rw (byte 9 (omega arith), byte 10 (omega arith), byte 11 (omega arith), byte 12 (omega arith))
+  same-four =
+      rw (byte 9 (omega arith), byte 10 (omega arith), byte 11 (omega arith), byte 12 (omega arith))
 
   same-two : numberAt 2 t 13 ≡ numberAt 2 s 13
   same-two = rw (byte 13 (omega arith), byte 14 (omega arith))
@@ -135,7 +158,8 @@ module _ (t s : List ℕ) (byte : (i : ℕ) → i < 16 → getD t i 0 ≡ getD s
   same-zeros =
       ap (λ (x : ℕ). eqb x 0 && eqb (numberAt 2 t 13) 0 && eqb (getD t 15 0) 0) same-four
       ∙ ap (λ (x : ℕ). eqb (numberAt 4 s 9) 0 && eqb x 0 && eqb (getD t 15 0) 0) same-two
-      ∙ ap (λ (x : ℕ). eqb (numberAt 4 s 9) 0 && eqb (numberAt 2 s 13) 0 && eqb x 0) (byte 15 (omega arith))
+      ∙ ap (λ (x : ℕ). eqb (numberAt 4 s 9) 0 && eqb (numberAt 2 s 13) 0 && eqb x 0)
+      (byte 15 (omega arith))
 
 -- a journal of more than 32,784 bytes, cut there
 module _ (s : List ℕ) (long : 32784 < length s) where
@@ -160,8 +184,27 @@ module _ (s : List ℕ) (long : 32784 < length s) where
           le-leb (recordPlace (storedCount s)) 32784 (omega (arith, most)) in
           let ends-too : leb (recordPlace (storedCount s)) (length s) ≡ true =
           le-leb (recordPlace (storedCount s)) (length s) (omega (arith, most, long)) in
-          rw (cut, header, same-mark (take 32784 s) s byte, same-version (take 32784 s) s byte, same-count (take 32784 s) s byte, same-zeros (take 32784 s) s byte, p, ends, ends-too)
-      go false p = rw (cut, header, same-mark (take 32784 s) s byte, same-version (take 32784 s) s byte, same-count (take 32784 s) s byte, same-zeros (take 32784 s) s byte, p)
+          rw (
+            cut,
+            header,
+            same-mark (take 32784 s) s byte,
+            same-version (take 32784 s) s byte,
+            same-count (take 32784 s) s byte,
+            same-zeros (take 32784 s) s byte,
+            p,
+            ends,
+            ends-too,
+          )
+      go false p =
+          rw (
+            cut,
+            header,
+            same-mark (take 32784 s) s byte,
+            same-version (take 32784 s) s byte,
+            same-count (take 32784 s) s byte,
+            same-zeros (take 32784 s) s byte,
+            p,
+          )
           (too-many (Journal.hasMark s) (eqb (Journal.version s) 1) (zerosKept s) _ _)
 
   same-records : (n k : ℕ) → n + k ≤ 1024 → recordsFrom (take 32784 s) n k ≡ recordsFrom s n k
@@ -177,7 +220,9 @@ journal-long : (s : List ℕ) → 32784 < length s → (buffer sheet : List ℕ)
 unfolding replayed inputsOf records counted journalNumber
 journal-long s long buffer sheet = go (isJournal s) refl
   where
-    go : (whole : Bool) → isJournal s ≡ whole → replayed sheet (take 32784 s) buffer ≡ replayed sheet s buffer
+    go :
+        (whole : Bool) → isJournal s ≡ whole →
+        replayed sheet (take 32784 s) buffer ≡ replayed sheet s buffer
     go true p =
         let most = leb-true (storedCount s) 1024 (good-journal s p .limit) in
         let count = same-count (take 32784 s) s (byte s long) in
@@ -188,12 +233,16 @@ count-long : (s : List ℕ) → 32784 < length s → counted (take 32784 s) ≡ 
 unfolding counted
 count-long s long = rw (alike s long, same-count (take 32784 s) s (byte s long))
 
-sheet-replayed : (sheet journal buffer : List ℕ) → replayed (take 4096 sheet) journal buffer ≡ replayed sheet journal buffer
+sheet-replayed :
+    (sheet journal buffer : List ℕ) →
+    replayed (take 4096 sheet) journal buffer ≡ replayed sheet journal buffer
 unfolding replayed
 sheet-replayed sheet journal buffer = rw (sheet-cut sheet)
 
 -- what the program reads of its files gives the text of the whole files
-pub cut-off : (sheet journal : List ℕ) → printed (take 4096 sheet) (take 32784 journal) ≡ printed sheet journal
+pub cut-off :
+    (sheet journal : List ℕ) →
+    printed (take 4096 sheet) (take 32784 journal) ≡ printed sheet journal
 unfolding printed
 cut-off sheet journal = go (leb (length journal) 32784) refl
   where
@@ -208,12 +257,14 @@ cut-off sheet journal = go (leb (length journal) 32784) refl
     go false p =
         let long = leb-false (length journal) 32784 p in
         let cut = take 32784 journal in
-        ap (λ (a : WriteAnswer). text a (counted cut)) (sheet-replayed sheet cut room ∙ journal-long journal long room sheet)
+        let answer = sheet-replayed sheet cut room ∙ journal-long journal long room sheet in
+        ap (λ (a : WriteAnswer). text a (counted cut)) answer
         ∙ ap (text (replayed sheet journal room)) (count-long journal long)
 
 -- and so does what larger buffers hold of them
 pub cut-anywhere :
-    (k l : ℕ) (sheet journal : List ℕ) → 4096 ≤ k → 32784 ≤ l → printed (take k sheet) (take l journal) ≡ printed sheet journal
+    (k l : ℕ) (sheet journal : List ℕ) → 4096 ≤ k → 32784 ≤ l
+    → printed (take k sheet) (take l journal) ≡ printed sheet journal
 cut-anywhere k l sheet journal sheet-room journal-room =
     sym (cut-off (take k sheet) (take l journal))
     ∙ ap₂ printed (take-take 4096 k sheet sheet-room) (take-take 32784 l journal journal-room)

@@ -55,7 +55,9 @@ unfolding digits
 digits-most zero n = omega arith
 digits-most (suc k) n = go (ltb n 10) refl (digits-most k (n / 10))
   where
-    go : (small : Bool) → ltb n 10 ≡ small → length (digits k (n / 10)) ≤ k → length (digits (suc k) n) ≤ suc k
+    go :
+        (small : Bool) → ltb n 10 ≡ small → length (digits k (n / 10)) ≤ k →
+        length (digits (suc k) n) ≤ suc k
     go true p rest = rw p (omega arith)
     go false p rest =
         rw (p, length-append (digits k (n / 10)) ((48 + n % 10) ∷ [])) (omega (arith, rest))
@@ -87,14 +89,19 @@ pub text-fits : (sheet journal : List ℕ) → length (printed sheet journal) �
 unfolding printed textOf decimal
 text-fits sheet journal = go (eqb (replayed sheet journal room .code) 0) refl
   where
-    go : (good : Bool) → eqb (replayed sheet journal room .code) 0 ≡ good → length (printed sheet journal) ≤ 33792
+    go :
+        (good : Bool) → eqb (replayed sheet journal room .code) 0 ≡ good →
+        length (printed sheet journal) ≤ 33792
     go true p =
         let lines = lines-most (replayed sheet journal room .bytes) 0 (counted journal) in
         let most = count-most journal in
         rw p (omega (arith, lines, most))
     go false p =
         let number = digits-most 10 (replayed sheet journal room .code) in
-        rw (p, length-append (digits 10 (replayed sheet journal room .code)) (10 ∷ [])) (omega (arith, number))
+        rw (
+          p,
+          length-append (digits 10 (replayed sheet journal room .code)) (10 ∷ []),
+        ) (omega (arith, number))
 
 -- bytes that fit are all put
 put-whole : (s : List ℕ) (at : ℕ) (bs : List ℕ) → at + length bs ≤ length s

@@ -19,8 +19,9 @@ printed sheet journal =
     let a = replayed sheet journal room in
     textOf (a .code) (a .bytes) (counted journal)
 
--- "prints per record: its number from 1, the code, the minutes. A refused sheet, else a refused journal, prints only its refusal number, on one
--- line." The law `prints` says that `printed` is this.
+-- "prints per record: its number from 1, the code, the minutes. A refused sheet, else a refused
+-- journal, prints only its refusal number, on one line." The law `prints` says that `printed` is
+-- this.
 unfoldable pub asWritten : List ℕ → List ℕ → List ℕ
 asWritten sheet journal =
     cond (not (eqb (readSheet sheet .code) 0)) (decimal (readSheet sheet .code) ++ (10 ∷ []))

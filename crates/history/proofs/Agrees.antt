@@ -1,5 +1,6 @@
--- The exact relation between a zone's state and its history: work, what is open, the movement, what is cleared, each as document 01's
--- history has it. A public law: the theorem, and later ones on zones and journals, stand on it.
+-- The exact relation between a zone's state and its history: work, what is open, the movement, what
+-- is cleared, each as document 01's history has it. A public law: the theorem, and later ones on
+-- zones and journals, stand on it.
 use mathlib.Core.Bool.{Bool, true, false, _||_, and-true, and-false, or-false, true≢false}
 use mathlib.Core.List.{List, []}
 use mathlib.Core.Path.{_≡_, refl, sym, ap, _∙_}
@@ -18,9 +19,11 @@ use Rattle.zone.specs.declared.Movement.the-variants.{NoMovement, Standing}
 use Rattle.zone.specs.Work.{workSet, agreedSet, openSet}
 use Rattle.zone.specs.Movement.{clearedSet}
 use Rattle.history.specs.Since.{Since, never, since, afterLast, any}
-use Rattle.history.specs.History.{is, clears, ends, leaves, asking, agreement, askedIn, underAgreedWork, opened, openToWork, standing, clearsWell}
+use Rattle.history.specs.History.{is, clears, ends, leaves, asking, agreement, askedIn}
+use Rattle.history.specs.History.{underAgreedWork, opened, openToWork, standing, clearsWell}
 use Rattle.history.proofs.Append.{_then_, extend, any-more}
-use Rattle.history.proofs.More.{asking-on, askedIn-on, agreement-on, under-on, open-on, standing-on}
+use Rattle.history.proofs.More.{asking-on, askedIn-on, agreement-on, under-on, open-on}
+use Rattle.history.proofs.More.{standing-on}
 
 -- a turnout of the station, in zone n
 pub record InZone (st : Station) (n t : ℕ) : Type 0 where
@@ -60,14 +63,18 @@ pub record Agrees (st : Station) (n : ℕ) (H : List Message) (w : Work) (v : Mo
   pub apart : (t : ℕ) → has (openSet w) t ≡ true → has (clearedSet v) t ≡ true → ⊥
   pub cleared-here : (t : ℕ) → has (clearedSet v) t ≡ true → InZone st n t
 
-pub under-is : (H : List Message) (w : Work) → WorkAgrees H w → (t : ℕ) → underAgreedWork t H ≡ has (agreedSet w) t
+pub under-is :
+    (H : List Message) (w : Work) → WorkAgrees H w → (t : ℕ) →
+    underAgreedWork t H ≡ has (agreedSet w) t
 unfolding underAgreedWork
 under-is H NoWork a t = a t ∙ sym (has-zero t)
 under-is H (Asked q) a t = rw (a .0) (and-false (askedIn t (asking H)) ∙ sym (has-zero t))
 under-is H (Agreed g) a t = a t
 
 -- where nothing is under agreed work, nothing is open
-pub nothing-open : (H : List Message) → ((t : ℕ) → underAgreedWork t H ≡ false) → (t : ℕ) → openToWork t H ≡ has 0 t
+pub nothing-open :
+    (H : List Message) → ((t : ℕ) → underAgreedWork t H ≡ false) → (t : ℕ) →
+    openToWork t H ≡ has 0 t
 unfolding openToWork
 nothing-open H none t = rw (none t) (sym (has-zero t))
 
@@ -109,19 +116,31 @@ not-work m k e calm =
       eleven = is-kind m k 11 e ∙ to-10 .1;
     }
 
-pub work-kept : (H : List Message) (m : Message) (w : Work) → is 1 m ≡ false → is 2 m ≡ false → ((t : ℕ) → ends t m ≡ false) → WorkAgrees H w → WorkAgrees (H then m) w
+pub work-kept :
+    (H : List Message) (m : Message) (w : Work) → is 1 m ≡ false → is 2 m ≡ false →
+    ((t : ℕ) → ends t m ≡ false) → WorkAgrees H w → WorkAgrees (H then m) w
 work-kept H m NoWork one two none a = λ t. under-on H m one two t ∙ rw (a t)
 work-kept H m (Asked q) one two none a = (
   agreement-on H m one two ∙ ap (λ (s : Since). extend s m) (a .0),
   λ t. ap (askedIn t) (asking-on H m one) ∙ askedIn-on H m t (asking H) ∙ a .1 t,
 )
-work-kept H m (Agreed g) one two none a = λ t. under-on H m one two t ∙ rw (none t, and-true (underAgreedWork t H)) (a t)
+work-kept H m (Agreed g) one two none a =
+    λ t. under-on H m one two t ∙ rw (none t, and-true (underAgreedWork t H)) (a t)
 
-pub open-kept : (H : List Message) (m : Message) → NotWork m → (t : ℕ) → openToWork t (H then m) ≡ openToWork t H
+pub open-kept :
+    (H : List Message) (m : Message) → NotWork m → (t : ℕ) →
+    openToWork t (H then m) ≡ openToWork t H
 unfolding openToWork
 open-kept H m c t =
     open-on H m (c .one) (c .two) t
-    ∙ rw (c .ten, c .eleven, c .four, c .six, and-true (underAgreedWork t H), and-true (opened t (agreement H)))
+    ∙ rw (
+      c .ten,
+      c .eleven,
+      c .four,
+      c .six,
+      and-true (underAgreedWork t H),
+      and-true (opened t (agreement H)),
+    )
 
 -- the kinds that the history's words on movements look at
 abbrev pub touchesMovement : ℕ → Bool
@@ -149,16 +168,27 @@ not-movement m k e calm =
 stays : (m : Message) → NotMovement m → leaves m ≡ false
 stays m c = rw (c .eight, c .nine)
 
-pub movement-kept : (st : Station) (H : List Message) (m : Message) (v : Movement) → NotMovement m → MovementAgrees st H v → MovementAgrees st (H then m) v
-movement-kept st H m NoMovement c a = standing-on H m (c .five) (stays m c) ∙ ap (λ (s : Since). extend s m) a
+pub movement-kept :
+    (st : Station) (H : List Message) (m : Message) (v : Movement) → NotMovement m →
+    MovementAgrees st H v → MovementAgrees st (H then m) v
+movement-kept st H m NoMovement c a =
+    standing-on H m (c .five) (stays m c) ∙ ap (λ (s : Since). extend s m) a
 movement-kept st H m (Standing p) c a = record {
   asked = a .asked;
   rest = a .rest then m;
   stands = standing-on H m (c .five) (stays m c) ∙ ap (λ (s : Since). extend s m) (a .stands);
   train = a .train;
   route = a .route;
-  cleared = λ t. any-more (clears t) (a .rest) m ∙ rw (c .six, or-false (any (clears t) (a .rest))) (a .cleared t);
-  efficient = λ t. any-more (clearsWell st (a .asked) t) (a .rest) m ∙ rw (c .six, or-false (any (clearsWell st (a .asked) t) (a .rest))) (a .efficient t);
+  cleared =
+      λ t. any-more (clears t) (a .rest) m ∙ rw (
+        c .six,
+        or-false (any (clears t) (a .rest)),
+      ) (a .cleared t);
+  efficient =
+      λ t. any-more (clearsWell st (a .asked) t) (a .rest) m ∙ rw (
+        c .six,
+        or-false (any (clearsWell st (a .asked) t) (a .rest)),
+      ) (a .efficient t);
 }
 
 pub no-member : (t : ℕ) → has 0 t ≡ true → ⊥
@@ -168,7 +198,11 @@ no-member t e = true≢false (sym e ∙ has-zero t)
 pub agrees-fresh : (st : Station) (n : ℕ) → Agrees st n [] NoWork NoMovement
 unfolding underAgreedWork openToWork standing afterLast
 agrees-fresh st n = record {
-  works = record { work = λ t. refl; opened = λ t. sym (has-zero t); here = λ t e. absurd (no-member t e) };
+  works = record {
+    work = λ t. refl;
+    opened = λ t. sym (has-zero t);
+    here = λ t e. absurd (no-member t e);
+  };
   movement = refl;
   apart = λ t e c. no-member t e;
   cleared-here = λ t e. absurd (no-member t e);

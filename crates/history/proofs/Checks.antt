@@ -1,4 +1,5 @@
--- What an accepted message tells: each check of its row failed; a clearance names a turnout below 64.
+-- What an accepted message tells: each check of its row failed; a clearance names a turnout below
+-- 64.
 use mathlib.Core.Bool.{Bool, true, false, cond, not, _&&_, and-eq-true-iff, true≢false}
 use mathlib.Core.List.{List, [], _∷_}
 use mathlib.Core.Path.{_≡_, refl, sym, _∙_}
@@ -7,7 +8,8 @@ use native.Mathlib.Omega.{arith}
 use borrow.Author.Tests.{eq-eqb, leb-true, not-true}
 use lib.Dec.{eqb, leb}
 use Rattle.message.specs.declared.Message.{Message}
-use Rattle.message.specs.Fields.{fieldNumber, fieldsKept, idKept, isKind, named, namedKept, setKept, detailsKept, clearanceSpans, details, inSpan, _to_}
+use Rattle.message.specs.Fields.{fieldNumber, fieldsKept, idKept, isKind, named, namedKept, setKept}
+use Rattle.message.specs.Fields.{detailsKept, clearanceSpans, details, inSpan, _to_}
 use Rattle.rules.specs.Kinds.{Check, _gives_, first}
 
 -- the test of each check is false
@@ -23,7 +25,8 @@ numbered ((test gives number) ∷ rest) = not (eqb number 0) && numbered rest
 pub passed : (checks : List Check) → numbered checks ≡ true → first checks ≡ 0 → Passed checks
 passed [] some none = tt
 passed ((true gives number) ∷ rest) some none =
-    let other = not-true (eqb number 0) (and-eq-true-iff (not (eqb number 0)) (numbered rest) .0 some .0) in
+    let other =
+    not-true (eqb number 0) (and-eq-true-iff (not (eqb number 0)) (numbered rest) .0 some .0) in
     absurd (true≢false (sym (eq-eqb number 0 none) ∙ other))
 passed ((false gives number) ∷ rest) some none =
     (refl, passed rest (and-eq-true-iff (not (eqb number 0)) (numbered rest) .0 some .1) none)
@@ -42,10 +45,15 @@ kept m zero = go (isKind (m .kind)) (fieldsKept m) zero
 pub clearance-turnout : (m : Message) → m .kind ≡ 6 → fieldNumber m ≡ 0 → m .d0 < 64
 unfolding fieldsKept named
 clearance-turnout m six zero =
-    let all = and-eq-true-iff (idKept (m .kind) (m .id)) (namedKept (named (m .kind)) m) .0 (kept m zero) .1 in
+    let id-kept = idKept (m .kind) (m .id) in
+    let all = and-eq-true-iff id-kept (namedKept (named (m .kind)) m) .0 (kept m zero) .1 in
     let row : namedKept (named 6) m ≡ true = rw six at all in
-    let spans = and-eq-true-iff (setKept false (m .a) && setKept false (m .b)) (detailsKept clearanceSpans (details m)) .0 row .1 in
-    let later = detailsKept ((1 to 9) ∷ (0 to 1) ∷ (0 to 2) ∷ (1 to 2) ∷ []) (m .d1 ∷ m .d2 ∷ m .d3 ∷ m .d4 ∷ m .d5 ∷ []) in
+    let sets = setKept false (m .a) && setKept false (m .b) in
+    let spans = and-eq-true-iff sets (detailsKept clearanceSpans (details m)) .0 row .1 in
+    let later =
+    detailsKept ((1 to 9) ∷ (0 to 1) ∷ (0 to 2) ∷ (1 to 2) ∷ [])
+    (m .d1 ∷ m .d2 ∷ m .d3 ∷ m .d4 ∷ m .d5 ∷ []) in
     let turnout = and-eq-true-iff (inSpan (0 to 63) (m .d0)) later .0 spans .0 in
-    let most : m .d0 ≤ 63 = leb-true (m .d0) 63 (and-eq-true-iff (leb 0 (m .d0)) (leb (m .d0) 63) .0 turnout .1) in
+    let most : m .d0 ≤ 63 =
+    leb-true (m .d0) 63 (and-eq-true-iff (leb 0 (m .d0)) (leb (m .d0) 63) .0 turnout .1) in
     omega arith

@@ -1,4 +1,5 @@
--- Hearing one input: an accepted one passed its checks and had its effect on its zone, a refused one left the desk as it was.
+-- Hearing one input: an accepted one passed its checks and had its effect on its zone, a refused
+-- one left the desk as it was.
 use mathlib.Core.Bool.{Bool, true, false, not, true≢false}
 use mathlib.Core.List.{List}
 use mathlib.Core.Path.{_≡_, refl, ap, _∙_}
@@ -17,12 +18,15 @@ use Rattle.station.specs.Station.{zoneCount}
 use Rattle.zone.specs.declared.Zone.{Zone}
 use Rattle.zone.specs.declared.Answer.{Answer}
 use Rattle.zone.specs.Movement.{isStanding, underTrain}
-use Rattle.zone.specs.Trains.{movementUnder, noPlace, namedStanding, clearedStanding, placed, changed}
+use Rattle.zone.specs.Trains.{movementUnder, noPlace, namedStanding, clearedStanding, placed}
+use Rattle.zone.specs.Trains.{changed}
 use Rattle.zone.specs.Zone.{refusedIn}
 use Rattle.zone.proofs.EachTrain.{found-under, found}
 use Rattle.rules.specs.declared.Concerned.{Concerned}
 use Rattle.rules.specs.Routes.{concerned}
-use Rattle.rules.specs.Kinds.{first, row, rows, noKind, row1, row2, row3, row4, row5, row6, row7, row8, row9, row10, checksOf, answered, heardOn, heard, zoneAfter, workAfter, moved}
+use Rattle.rules.specs.Kinds.{first, row, rows, noKind, row1, row2, row3, row4, row5, row6, row7}
+use Rattle.rules.specs.Kinds.{row8, row9, row10, checksOf, answered, heardOn, heard, zoneAfter}
+use Rattle.rules.specs.Kinds.{workAfter, moved}
 use Rattle.desk.specs.declared.Desk.{Desk}
 use Rattle.desk.specs.Desk.{zoneAt, refusedBy, noSuchZone, reached, applied, appliedRecord}
 use Rattle.desk.proofs.InPlace.{zone-kept}
@@ -31,7 +35,8 @@ use Rattle.history.specs.Demand3.{heardBy, hears}
 use Rattle.history.proofs.Append.{_then_}
 use Rattle.history.proofs.Checks.{passed, clearance-turnout}
 use Rattle.history.proofs.Agrees.{Agrees}
-use Rattle.history.proofs.Steps.{step1, step2, step3, step4, step5, step6, step7, step8, step9, step10, step11, step12}
+use Rattle.history.proofs.Steps.{step1, step2, step3, step4, step5, step6, step7, step8}
+use Rattle.history.proofs.Steps.{step9, step10, step11, step12}
 
 -- an accepted message keeps its zone in agreement with its history
 module _ (st : Station) (n : ℕ) (H : List Message) (m : Message) (z : Zone) where
@@ -42,7 +47,8 @@ module _ (st : Station) (n : ℕ) (H : List Message) (m : Message) (z : Zone) wh
       → Agrees st n (H then m) (workAfter k (z .work) m) (moved k z m .movement)
 
   pub step :
-      fieldNumber m ≡ 0 → m .zone ≡ n → first (checksOf (m .kind) st z m) ≡ 0 → Agrees st n H (z .work) (z .movement)
+      fieldNumber m ≡ 0 → m .zone ≡ n → first (checksOf (m .kind) st z m) ≡ 0
+      → Agrees st n H (z .work) (z .movement)
       → Agrees st n (H then m) (zoneAfter (m .kind) z m .work) (zoneAfter (m .kind) z m .movement)
   unfolding zoneAfter row workAfter moved noPlace namedStanding clearedStanding placed changed
   step rules zone checks a = by-kind (m .kind) refl checks
@@ -51,33 +57,53 @@ module _ (st : Station) (n : ℕ) (H : List Message) (m : Message) (z : Zone) wh
       routes = concerned st z m
 
       -- kinds 6 to 9: the movement is the message's train's
-      its : not (isStanding (movementUnder z (m .id))) ≡ false → underTrain (z .movement) (m .id) ≡ true
+      its :
+          not (isStanding (movementUnder z (m .id))) ≡ false →
+          underTrain (z .movement) (m .id) ≡ true
       its c = found-under z (m .id) (not-false (isStanding (movementUnder z (m .id))) c)
 
       by-kind : (k : ℕ) → StepOf k
       by-kind =
           each-kind StepOf
           ((λ e none. absurd (omega arith))
-          also (λ e none. let c = passed (row1 st routes z m) refl none in step1 st n H m (z .work) (z .movement) e zone (c .0) (c .1 .0) a)
-          also (λ e none. let c = passed (row2 st routes z m) refl none in step2 st n H m (z .work) (z .movement) e (c .0) (c .1 .0) a)
-          also (λ e none. let c = passed (row3 st routes z m) refl none in step3 st n H m (z .work) (z .movement) e (c .1 .0) a)
+          also (λ e none.
+          let c = passed (row1 st routes z m) refl none in
+          step1 st n H m (z .work) (z .movement) e zone (c .0) (c .1 .0) a)
+          also (λ e none.
+          let c = passed (row2 st routes z m) refl none in
+          step2 st n H m (z .work) (z .movement) e (c .0) (c .1 .0) a)
+          also (λ e none.
+          let c = passed (row3 st routes z m) refl none in
+          step3 st n H m (z .work) (z .movement) e (c .1 .0) a)
           also (λ e none.
           let c = passed (row4 st routes z m) refl none in
           step4 st n H m (z .work) (z .movement) e (c .1 .0) (c .1 .1 .0) (c .1 .1 .1 .0) a)
-          also (λ e none. let c = passed (row5 st routes z m) refl none in rw (c .0) (step5 st n H m (z .work) (z .movement) e a))
+          also (λ e none.
+          let c = passed (row5 st routes z m) refl none in
+          rw (c .0) (step5 st n H m (z .work) (z .movement) e a))
           also (λ e none.
           let c = passed (row6 st routes z m) refl none in
           let same = found z (m .id) (its (c .0)) in
           let worked = rw same at (c .1 .1 .0) in
           let fits = rw same at (c .1 .1 .1 .0) in
+          let turnout = clearance-turnout m e rules in
           rw (same, its (c .0))
-          (step6 st n H m (z .work) (z .movement) e (clearance-turnout m e rules) (its (c .0)) worked fits a))
+          (step6 st n H m (z .work) (z .movement) e turnout (its (c .0)) worked fits a))
           also (λ e none.
           let c = passed (row7 st routes z m) refl none in
-          rw (found z (m .id) (its (c .0)), its (c .0)) (step7 st n H m (z .work) (z .movement) e a))
-          also (λ e none. let c = passed (row8 st routes z m) refl none in rw (its (c .0)) (step8 st n H m (z .work) (z .movement) e a))
-          also (λ e none. let c = passed (row9 st routes z m) refl none in rw (its (c .0)) (step9 st n H m (z .work) (z .movement) e a))
-          also (λ e none. let c = passed (row10 st routes z m) refl none in step10 st n H m (z .work) (z .movement) e (c .1 .1 .0) a)
+          rw (
+            found z (m .id) (its (c .0)),
+            its (c .0),
+          ) (step7 st n H m (z .work) (z .movement) e a))
+          also (λ e none.
+          let c = passed (row8 st routes z m) refl none in
+          rw (its (c .0)) (step8 st n H m (z .work) (z .movement) e a))
+          also (λ e none.
+          let c = passed (row9 st routes z m) refl none in
+          rw (its (c .0)) (step9 st n H m (z .work) (z .movement) e a))
+          also (λ e none.
+          let c = passed (row10 st routes z m) refl none in
+          step10 st n H m (z .work) (z .movement) e (c .1 .1 .0) a)
           also (λ e none. step11 st n H m (z .work) (z .movement) e a)
           also (λ e none. step12 st n H m (z .work) (z .movement) e a)
           also tt)
@@ -86,27 +112,35 @@ module _ (st : Station) (n : ℕ) (H : List Message) (m : Message) (z : Zone) wh
           absurd (omega arith))
 
 -- a message that its zone accepted
-pub heard-accepted : (st : Station) (z : Zone) (m : Message) → heard st z m .code ≡ 0 → (first (checksOf (m .kind) st z m) ≡ 0) × (heard st z m .zone ≡ zoneAfter (m .kind) z m)
+pub heard-accepted :
+    (st : Station) (z : Zone) (m : Message) → heard st z m .code ≡ 0 →
+    (first (checksOf (m .kind) st z m) ≡ 0) × (heard st z m .zone ≡ zoneAfter (m .kind) z m)
 unfolding heard heardOn answered
 heard-accepted st z m zero = go (ltb (m .time) (z .time)) refl (eqb number 0) refl
   where
     number : ℕ
     number = first (checksOf (m .kind) st z m)
 
-    go : (early : Bool) → ltb (m .time) (z .time) ≡ early → (none : Bool) → eqb (first (checksOf (m .kind) st z m)) 0 ≡ none
+    go :
+        (early : Bool) → ltb (m .time) (z .time) ≡ early → (none : Bool) →
+        eqb (first (checksOf (m .kind) st z m)) 0 ≡ none
         → (first (checksOf (m .kind) st z m) ≡ 0) × (heard st z m .zone ≡ zoneAfter (m .kind) z m)
     go true p none q = let fourteen : _≡_ {A = ℕ} 14 0 = rw p at zero in absurd (omega arith)
     go false p true q = (eqb-true (first (checksOf (m .kind) st z m)) 0 q, rw (p, q))
-    go false p false q = absurd (eqb-false (first (checksOf (m .kind) st z m)) 0 q (rw (p, q) at zero))
+    go false p false q =
+        absurd (eqb-false (first (checksOf (m .kind) st z m)) 0 q (rw (p, q) at zero))
 
 -- a message that its zone refused: nothing is altered, and there are no minutes
 pub heard-refused :
-    (st : Station) (z : Zone) (m : Message) → eqb (heard st z m .code) 0 ≡ false → heard st z m ≡ refusedIn z (heard st z m .code)
+    (st : Station) (z : Zone) (m : Message) → eqb (heard st z m .code) 0 ≡ false
+    → heard st z m ≡ refusedIn z (heard st z m .code)
 unfolding heard heardOn answered
-heard-refused st z m other = go (ltb (m .time) (z .time)) refl (eqb (first (checksOf (m .kind) st z m)) 0) refl
+heard-refused st z m other =
+    go (ltb (m .time) (z .time)) refl (eqb (first (checksOf (m .kind) st z m)) 0) refl
   where
     go :
-        (early : Bool) → ltb (m .time) (z .time) ≡ early → (none : Bool) → eqb (first (checksOf (m .kind) st z m)) 0 ≡ none
+        (early : Bool) → ltb (m .time) (z .time) ≡ early → (none : Bool)
+        → eqb (first (checksOf (m .kind) st z m)) 0 ≡ none
         → heard st z m ≡ refusedIn z (heard st z m .code)
     go true p none q = rw p
     go false p true q = absurd (true≢false (rw (p, q) at other))
@@ -117,11 +151,13 @@ pub record Taken (st : Station) (d : Desk) (m : Message) (d′ : Desk) : Type 0 
   pub rules : fieldNumber m ≡ 0
   pub zone : m .zone < zoneCount st
   pub checks : first (checksOf (m .kind) st (zoneAt d (m .zone)) m) ≡ 0
-  pub desk : d′ ≡ record { zones = set (d .zones) (m .zone) (zoneAfter (m .kind) (zoneAt d (m .zone)) m) }
+  pub desk :
+      d′ ≡ record { zones = set (d .zones) (m .zone) (zoneAfter (m .kind) (zoneAt d (m .zone)) m) }
 
 -- a message that keeps the field rules
 reached-accepted :
-    (st : Station) (d : Desk) (m : Message) → fieldNumber m ≡ 0 → reached st d m .code ≡ 0 → Taken st d m (reached st d m .desk)
+    (st : Station) (d : Desk) (m : Message) → fieldNumber m ≡ 0 → reached st d m .code ≡ 0
+    → Taken st d m (reached st d m .desk)
 unfolding reached
 reached-accepted st d m rules zero = go (noSuchZone st m) refl
   where
@@ -142,7 +178,9 @@ reached-refused :
 unfolding reached
 reached-refused st d m other = go (noSuchZone st m) refl
   where
-    go : (none : Bool) → noSuchZone st m ≡ none → reached st d m ≡ refusedBy d (reached st d m .code)
+    go :
+        (none : Bool) → noSuchZone st m ≡ none →
+        reached st d m ≡ refusedBy d (reached st d m .code)
     go true p = rw p
     go false p =
         let answer = heard st (zoneAt d (m .zone)) m in
@@ -150,9 +188,15 @@ reached-refused st d m other = go (noSuchZone st m) refl
         let minutes : answer .minutes ≡ 0 = ap (λ (a : Answer). a .minutes) same in
         let zones : set (d .zones) (m .zone) (answer .zone) ≡ d .zones =
         ap (λ (a : Answer). set (d .zones) (m .zone) (a .zone)) same ∙ zone-kept d (m .zone) in
-        rw p (λ i. record { code = answer .code; minutes = minutes i; desk = record { zones = zones i } })
+        rw p (λ i. record {
+          code = answer .code;
+          minutes = minutes i;
+          desk = record { zones = zones i };
+        })
 
-applied-accepted : (st : Station) (d : Desk) (m : Message) → applied st d m .code ≡ 0 → Taken st d m (applied st d m .desk)
+applied-accepted :
+    (st : Station) (d : Desk) (m : Message) → applied st d m .code ≡ 0 →
+    Taken st d m (applied st d m .desk)
 unfolding applied
 applied-accepted st d m zero = go (eqb (fieldNumber m) 0) refl
   where
@@ -166,7 +210,9 @@ applied-refused :
 unfolding applied
 applied-refused st d m other = go (eqb (fieldNumber m) 0) refl
   where
-    go : (fields : Bool) → eqb (fieldNumber m) 0 ≡ fields → applied st d m ≡ refusedBy d (applied st d m .code)
+    go :
+        (fields : Bool) → eqb (fieldNumber m) 0 ≡ fields →
+        applied st d m ≡ refusedBy d (applied st d m .code)
     go true p = rw p (reached-refused st d m (rw p at other))
     go false p = rw p
 
@@ -176,7 +222,9 @@ record-accepted :
 unfolding appliedRecord
 record-accepted st d s zero = go (eqb (readRecord s .code) 0) refl
   where
-    go : (read : Bool) → eqb (readRecord s .code) 0 ≡ read → Taken st d (readRecord s .message) (appliedRecord st d s .desk)
+    go :
+        (read : Bool) → eqb (readRecord s .code) 0 ≡ read →
+        Taken st d (readRecord s .message) (appliedRecord st d s .desk)
     go true p =
         let rules = accepted-rules s (eqb-true (readRecord s .code) 0 p) in
         rw p (reached-accepted st d (readRecord s .message) rules (rw p at zero))
@@ -188,11 +236,15 @@ record-refused :
 unfolding appliedRecord
 record-refused st d s other = go (eqb (readRecord s .code) 0) refl
   where
-    go : (read : Bool) → eqb (readRecord s .code) 0 ≡ read → appliedRecord st d s ≡ refusedBy d (appliedRecord st d s .code)
+    go :
+        (read : Bool) → eqb (readRecord s .code) 0 ≡ read →
+        appliedRecord st d s ≡ refusedBy d (appliedRecord st d s .code)
     go true p = rw p (reached-refused st d (readRecord s .message) (rw p at other))
     go false p = rw p
 
-pub hear-accepted : (st : Station) (d : Desk) (i : Input) → hears st d i .reply .code ≡ 0 → Taken st d (messageOf i) (hears st d i .state)
+pub hear-accepted :
+    (st : Station) (d : Desk) (i : Input) → hears st d i .reply .code ≡ 0 →
+    Taken st d (messageOf i) (hears st d i .state)
 hear-accepted st d (message m) zero = applied-accepted st d m zero
 hear-accepted st d (bytes s) zero = record-accepted st d s zero
 
@@ -203,5 +255,7 @@ pub hear-refused :
 hear-refused st d (message m) other = ap heardBy (applied-refused st d m other)
 hear-refused st d (bytes s) other = ap heardBy (record-refused st d s other)
 
-pub same-state : (st : Station) (d : Desk) (i : Input) → eqb (hears st d i .reply .code) 0 ≡ false → hears st d i .state ≡ d
+pub same-state :
+    (st : Station) (d : Desk) (i : Input) → eqb (hears st d i .reply .code) 0 ≡ false →
+    hears st d i .state ≡ d
 same-state st d i other = ap (λ (h : Heard Desk). h .state) (hear-refused st d i other)

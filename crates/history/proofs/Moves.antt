@@ -1,5 +1,7 @@
--- One train's movement and the messages of that train: one more of them, kind by kind. Nothing here knows of other trains or of work.
-use mathlib.Core.Bool.{Bool, true, false, cond, not, _&&_, _||_, and-true, and-false, and-eq-true-iff, true≢false}
+-- One train's movement and the messages of that train: one more of them, kind by kind. Nothing here
+-- knows of other trains or of work.
+use mathlib.Core.Bool.{Bool, true, false, cond, not, _&&_, _||_, and-true, and-false}
+use mathlib.Core.Bool.{and-eq-true-iff, true≢false}
 use mathlib.Core.List.{List, []}
 use mathlib.Core.Path.{_≡_, refl, sym, ap, ap₂, subst, _∙_}
 use Prim.Native.Nat.{ℕ, _<_}
@@ -50,10 +52,14 @@ module _ (st : Station) (L : List Message) (m : Message) where
   left-agrees five away = standing-left L m five away
 
   -- 7
-  pub ordered-agrees : (v : Movement) → m .kind ≡ 7 → MovementAgrees st L v → MovementAgrees st (L then m) (orderedAs v (m .d0))
+  pub ordered-agrees :
+      (v : Movement) → m .kind ≡ 7 → MovementAgrees st L v →
+      MovementAgrees st (L then m) (orderedAs v (m .d0))
   ordered-agrees v e a = ordered v (movement-kept st L m v (not-movement m 7 e refl) a)
     where
-      ordered : (v : Movement) → MovementAgrees st (L then m) v → MovementAgrees st (L then m) (orderedAs v (m .d0))
+      ordered :
+          (v : Movement) → MovementAgrees st (L then m) v →
+          MovementAgrees st (L then m) (orderedAs v (m .d0))
       ordered NoMovement a = a
       ordered (Standing p) a = record {
         asked = a .asked;
@@ -66,18 +72,26 @@ module _ (st : Station) (L : List Message) (m : Message) where
       }
 
   -- 6
-  pub cleared-agrees : (v : Movement) → m .kind ≡ 6 → m .d0 < 64 → underTrain v (m .id) ≡ true → not (clearanceFits st (routeFor st v) m) ≡ false
-      → MovementAgrees st L v → MovementAgrees st (L then m) (clearedAt v (m .d0) (isEfficient (m .d1)))
+  pub cleared-agrees :
+      (v : Movement) → m .kind ≡ 6 → m .d0 < 64 → underTrain v (m .id) ≡ true →
+      not (clearanceFits st (routeFor st v) m) ≡ false
+      → MovementAgrees st L v
+      → MovementAgrees st (L then m) (clearedAt v (m .d0) (isEfficient (m .d1)))
   unfolding clearanceFits
   cleared-agrees NoMovement e below train fits a = absurd (true≢false (sym train))
   cleared-agrees (Standing p) e below train fits a = record {
     asked = a .asked;
     rest = a .rest then m;
-    stands = standing-on L m (is-kind m 6 5 e) (rw (is-kind m 6 8 e, is-kind m 6 9 e)) ∙ ap (λ (x : Since). extend x m) (a .stands);
+    stands =
+        standing-on L m (is-kind m 6 5 e) (rw (is-kind m 6 8 e, is-kind m 6 9 e))
+        ∙ ap (λ (x : Since). extend x m) (a .stands);
     train = a .train;
     route = a .route;
-    cleared = λ t. any-more (clears t) (a .rest) m ∙ ap₂ (λ (o b : Bool). o || b) (a .cleared t) (clears-alone t) ∙ sym (has-or (p .cleared) (single (m .d0)) t);
-    efficient = λ t. any-more (clearsWell st (a .asked) t) (a .rest) m ∙ ap₂ (λ (o b : Bool). o || b) (a .efficient t) (well t (eqb (m .d0) t) refl)
+    cleared = λ t. any-more (clears t) (a .rest) m
+        ∙ ap₂ (λ (o b : Bool). o || b) (a .cleared t) (clears-alone t)
+        ∙ sym (has-or (p .cleared) (single (m .d0)) t);
+    efficient = λ t. any-more (clearsWell st (a .asked) t) (a .rest) m
+        ∙ ap₂ (λ (o b : Bool). o || b) (a .efficient t) (well t (eqb (m .d0) t) refl)
         ∙ sym (has-or (p .efficient) (cond (isEfficient (m .d1)) (single (m .d0)) 0) t);
   }
     where
@@ -95,18 +109,26 @@ module _ (st : Station) (L : List Message) (m : Message) where
           let fit-drive = driveFits (m .d1) (driveOf st (m .d0)) in
           let fit-clamp = clampFits (m .d1) (has (r .over) (m .d0)) (m .d3) in
           let all = not-false (fit-position && fit-drive && fit-clamp) fits in
-          rw (a .route) (and-eq-true-iff fit-position fit-drive .0 (and-eq-true-iff (fit-position && fit-drive) fit-clamp .0 all .0) .0)
+          let both = and-eq-true-iff (fit-position && fit-drive) fit-clamp .0 all .0 in
+          rw (a .route) (and-eq-true-iff fit-position fit-drive .0 both .0)
 
       marked : (b : Bool) (t : ℕ) → has (cond b (single (m .d0)) 0) t ≡ (b && eqb (m .d0) t)
       marked true t = alone (m .d0) t below
       marked false t = has-zero t
 
-      well : (t : ℕ) (b : Bool) → eqb (m .d0) t ≡ b → clearsWell st (a .asked) t m ≡ has (cond (isEfficient (m .d1)) (single (m .d0)) 0) t
+      well :
+          (t : ℕ) (b : Bool) → eqb (m .d0) t ≡ b →
+          clearsWell st (a .asked) t m ≡ has (cond (isEfficient (m .d1)) (single (m .d0)) 0) t
       well t true q =
           let eff = isEfficient (m .d1) in
           let itself = eq-eqb (m .d0) (m .d0) refl in
           let here : clearsWell st (a .asked) (m .d0) m ≡ eff =
           rw (is-kind m 6 6 e, itself, eq-eqb (m .id) (a .asked .id) this-train, position) in
-          subst (λ (x : ℕ). clearsWell st (a .asked) x m ≡ has (cond (isEfficient (m .d1)) (single (m .d0)) 0) x) (eqb-true (m .d0) t q)
+          subst (λ (x : ℕ). clearsWell st (a .asked) x m ≡ has (cond eff (single (m .d0)) 0) x)
+          (eqb-true (m .d0) t q)
           (here ∙ sym (marked eff (m .d0) ∙ rw itself (and-true eff)))
-      well t false q = rw (is-kind m 6 6 e, q) (sym (marked (isEfficient (m .d1)) t ∙ rw q (and-false (isEfficient (m .d1)))))
+      well t false q =
+          rw (
+            is-kind m 6 6 e,
+            q,
+          ) (sym (marked (isEfficient (m .d1)) t ∙ rw q (and-false (isEfficient (m .d1)))))

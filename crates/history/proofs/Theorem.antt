@@ -1,5 +1,5 @@
--- Demand 3: the theorem. After every list of hearings from the fresh desk the four sentences hold; the statement is in
--- specs/Demand3.antt.
+-- Demand 3: the theorem. After every list of hearings from the fresh desk the four sentences hold;
+-- the statement is in specs/Demand3.antt.
 use mathlib.Core.Bool.{Bool, true, false, and-eq-true-iff, true≢false}
 use mathlib.Core.List.{List, []}
 use mathlib.Core.Logic.{_↔_}
@@ -23,7 +23,8 @@ use Rattle.desk.specs.declared.Desk.{Desk}
 use Rattle.desk.specs.Desk.{freshDesk, zoneAt}
 use Rattle.desk.specs.Questions.{movementAnswered, workAnswered}
 use Rattle.history.specs.Since.{never, since, afterLast}
-use Rattle.history.specs.History.{underAgreedWork, openToWork, opened, agreement, standing, cleared, EachWorkedCleared}
+use Rattle.history.specs.History.{underAgreedWork, openToWork, opened, agreement, standing}
+use Rattle.history.specs.History.{cleared, EachWorkedCleared}
 use Rattle.history.specs.Lists.{Input, deskAfter, zoneMessages}
 use Rattle.history.specs.Demand3.{ours, Holds, Demand3}
 use Rattle.history.proofs.Agrees.{InZone, Agrees, under-is}
@@ -32,7 +33,9 @@ use Rattle.history.proofs.Standing.{cleared-is, told}
 use Rattle.history.proofs.Runs.{AllAgree, run-agrees, fresh-agrees, same-desk, same-answers}
 
 -- an open turnout is one of the zone
-open-here : {st : Station} {n : ℕ} {H : List Message} {w : Work} {v : Movement} → Agrees st n H w v → (t : ℕ) → openToWork t H ≡ true → InZone st n t
+open-here :
+    {st : Station} {n : ℕ} {H : List Message} {w : Work} {v : Movement} → Agrees st n H w v →
+    (t : ℕ) → openToWork t H ≡ true → InZone st n t
 unfolding openToWork
 open-here {H = H} {w = w} a t o =
     let under = and-eq-true-iff (underAgreedWork t H) (opened t (agreement H)) .0 o .0 in
@@ -53,8 +56,10 @@ module _ (st : Station) (inputs : List Input) where
   apart : (t z z′ : ℕ) → openToWork t (story z) ≡ true → cleared t (story z′) ≡ true → ⊥
   apart t z z′ o c =
       let there = all .each z′ in
-      let is-cleared = sym (cleared-is st (story z′) (zoneAt end z′ .movement) (there .movement) t) ∙ c in
-      let same : z ≡ z′ = sym (open-here (all .each z) t o .zone) ∙ there .cleared-here t is-cleared .zone in
+      let is-cleared =
+      sym (cleared-is st (story z′) (zoneAt end z′ .movement) (there .movement) t) ∙ c in
+      let same : z ≡ z′ =
+      sym (open-here (all .each z) t o .zone) ∙ there .cleared-here t is-cleared .zone in
       there .apart t (sym (there .works .opened t) ∙ rw same at o) is-cleared
 
   -- what is no zone of the station has nothing open and nothing standing
@@ -67,10 +72,13 @@ module _ (st : Station) (inputs : List Input) where
   unfolding workAnswered
   work t = (asked (ltb t (turnoutCount st)) refl, answered)
     where
-      asked : (b : Bool) → ltb t (turnoutCount st) ≡ b → workAnswered st end t .yes ≡ true → (z : ℕ) × (openToWork t (story z) ≡ true)
+      asked :
+          (b : Bool) → ltb t (turnoutCount st) ≡ b → workAnswered st end t .yes ≡ true →
+          (z : ℕ) × (openToWork t (story z) ≡ true)
       asked true q says =
           let z = zoneOf st t in
-          let both = and-eq-true-iff (ltb z (zoneCount st)) (has (openSet (zoneAt end z .work)) t) .0 (rw q at says) in
+          let is-open = has (openSet (zoneAt end z .work)) t in
+          let both = and-eq-true-iff (ltb z (zoneCount st)) is-open .0 (rw q at says) in
           (z, all .each z .works .opened t ∙ both .1)
       asked false q says = absurd (true≢false (sym (rw q at says)))
 
@@ -81,7 +89,12 @@ module _ (st : Station) (inputs : List Input) where
           here = open-here (all .each (o .0)) t (o .1)
 
           go : (b : Bool) → ltb (o .0) (zoneCount st) ≡ b → workAnswered st end t .yes ≡ true
-          go true q = rw (lt-ltb t (turnoutCount st) (here .below), here .zone, q) (sym (all .each (o .0) .works .opened t) ∙ o .1)
+          go true q =
+              rw (
+                lt-ltb t (turnoutCount st) (here .below),
+                here .zone,
+                q,
+              ) (sym (all .each (o .0) .works .opened t) ∙ o .1)
           go false q = absurd (no-zone-open t (o .0) (ltb-false (o .0) (zoneCount st) q) (o .1))
 
   -- the movement question
@@ -90,16 +103,22 @@ module _ (st : Station) (inputs : List Input) where
   unfolding movementAnswered standing afterLast
   clear z f rest stands = go (ltb z (zoneCount st)) refl
     where
-      go : (b : Bool) → ltb z (zoneCount st) ≡ b → (movementAnswered st end z (f .id) .regime ≡ Clear) ↔ EachWorkedCleared st (story z) f rest
+      go :
+          (b : Bool) → ltb z (zoneCount st) ≡ b →
+          (movementAnswered st end z (f .id) .regime ≡ Clear)
+          ↔ EachWorkedCleared st (story z) f rest
       go true q =
           let a = all .each z in
           let v = zoneAt end z .movement in
-          let c = told st (story z) (story z) (zoneAt end z .work) v f rest (a .works .work) (a .movement) stands in
+          let w = zoneAt end z .work in
+          let c = told st (story z) (story z) w v f rest (a .works .work) (a .movement) stands in
           let its = found (zoneAt end z) (f .id) (c .under) in
-          let stands-there = and-eq-true-iff (isStanding v) (eqb (trainOf v) (f .id)) .0 (c .under) .0 in
+          let stands-there =
+          and-eq-true-iff (isStanding v) (eqb (trainOf v) (f .id)) .0 (c .under) .0 in
           rw (q, its, stands-there) (c .clear)
       go false q =
-          let nothing : never ≡ since f rest = rw (all .outside z (ltb-false z (zoneCount st) q)) at stands in
+          let nothing : never ≡ since f rest =
+          rw (all .outside z (ltb-false z (zoneCount st) q)) at stands in
           let impossible : _≡_ {A = ℕ} 0 1 = cc in
           absurd (omega arith)
 

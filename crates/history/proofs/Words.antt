@@ -7,7 +7,8 @@ use Rattle.history.specs.History.{underAgreedWork, openToWork, standing,
 use Rattle.history.specs.Cases.{WordCases}
 
 pub word-cases : WordCases
-unfolding has theRoute underAgreedWork openToWork standing cleared afterLast afterFirst any anyThenNone
+unfolding has theRoute underAgreedWork openToWork standing cleared
+    afterLast afterFirst any anyThenNone
 word-cases = record {
   under-1 = refl;
   under-3 = refl;

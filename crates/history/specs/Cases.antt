@@ -1,4 +1,5 @@
--- Cases of the history's words, by hand: the messages that station K's desk accepts, and a route with a turnout in reverse.
+-- Cases of the history's words, by hand: the messages that station K's desk accepts, and a route
+-- with a turnout in reverse.
 use mathlib.Core.Bool.{Bool, true, false}
 use mathlib.Core.List.{List, [], _∷_, _++_, map}
 use mathlib.Core.Path.{_≡_}
@@ -8,17 +9,42 @@ use Rattle.message.specs.declared.Message.{Message}
 use Rattle.station.specs.declared.Station.{Station}
 use Rattle.station.specs.Station.{emptyRoute, emptyTurnout}
 use Rattle.history.specs.Since.{never, since, any}
-use Rattle.history.specs.History.{underAgreedWork, openToWork, standing, cleared, ofItsRoute, clearsWell, lacks}
+use Rattle.history.specs.History.{underAgreedWork, openToWork, standing, cleared, ofItsRoute}
+use Rattle.history.specs.History.{clearsWell, lacks}
 
 -- a message of zone 0 that names no set and no detail
 abbrev pub plain : ℕ → ℕ → ℕ → Message
-plain kind time id =
-    record { kind = kind; zone = 0; time = time; id = id; a = 0; b = 0; d0 = 0; d1 = 0; d2 = 0; d3 = 0; d4 = 0; d5 = 0 }
+plain kind time id = record {
+  kind = kind;
+  zone = 0;
+  time = time;
+  id = id;
+  a = 0;
+  b = 0;
+  d0 = 0;
+  d1 = 0;
+  d2 = 0;
+  d3 = 0;
+  d4 = 0;
+  d5 = 0;
+}
 
 -- with the sets a and b and the detail d0
 abbrev pub naming : ℕ → ℕ → ℕ → ℕ → ℕ → ℕ → Message
-naming kind time id a b d0 =
-    record { kind = kind; zone = 0; time = time; id = id; a = a; b = b; d0 = d0; d1 = 0; d2 = 0; d3 = 0; d4 = 0; d5 = 0 }
+naming kind time id a b d0 = record {
+  kind = kind;
+  zone = 0;
+  time = time;
+  id = id;
+  a = a;
+  b = b;
+  d0 = d0;
+  d1 = 0;
+  d2 = 0;
+  d3 = 0;
+  d4 = 0;
+  d5 = 0;
+}
 
 -- a clearance: turnout, declaration, position, clamp, medium
 abbrev pub clearance : ℕ → ℕ → ℕ → ℕ → ℕ → ℕ → ℕ → Message
@@ -39,7 +65,8 @@ clearance time train turnout declaration position clamp medium = record {
 
 -- a clearance in the normal position
 abbrev pub clearing : ℕ → ℕ → ℕ → ℕ → ℕ → ℕ → Message
-clearing time train turnout declaration clamp medium = clearance time train turnout declaration 0 clamp medium
+clearing time train turnout declaration clamp medium =
+    clearance time train turnout declaration 0 clamp medium
 
 -- station K's records 1, 2, 3, 4, 6, 8, 10 and 11, which are accepted
 abbrev pub acceptedK : List Message
@@ -67,8 +94,8 @@ upTo8 = take 6 acceptedK
 abbrev pub upTo10 : List Message
 upTo10 = take 7 acceptedK
 
--- a station of 3 turnouts, none of them tied, and two routes over {0} with flank {2}: 0 with none reverse, 1 with turnout 2 reverse. The
--- words look at its routes alone
+-- a station of 3 turnouts, none of them tied, and two routes over {0} with flank {2}: 0 with none
+-- reverse, 1 with turnout 2 reverse. The words look at its routes alone
 abbrev pub twoRoutes : Station
 twoRoutes = record {
   turnouts = 3;
@@ -98,14 +125,20 @@ pub record WordCases : Type 0 where
   pub under-1 : at012 (λ t. underAgreedWork t (take 1 acceptedK)) ≡ false ∷ false ∷ false ∷ []
   pub under-3 : at012 (λ t. underAgreedWork t upTo3) ≡ true ∷ true ∷ false ∷ []
   pub under-11 : at012 (λ t. underAgreedWork t acceptedK) ≡ false ∷ false ∷ false ∷ []
-  pub part : at012 (λ t. underAgreedWork t (naming 1 0 9 7 0 2 ∷ plain 2 1 9 ∷ naming 10 2 9 4 0 0 ∷ [])) ≡ true ∷ true ∷ false ∷ []
+  pub part :
+      at012 (λ t. underAgreedWork t (naming 1 0 9 7 0 2 ∷ plain 2 1 9 ∷ naming 10 2 9 4 0 0 ∷ []))
+      ≡ true ∷ true ∷ false ∷ []
   pub open-3 : at012 (λ t. openToWork t upTo3) ≡ true ∷ true ∷ false ∷ []
   pub open-6 : at012 (λ t. openToWork t upTo6) ≡ false ∷ true ∷ false ∷ []
   pub open-10 : at012 (λ t. openToWork t upTo10) ≡ false ∷ true ∷ false ∷ []
-  pub device : at012 (λ t. openToWork t (naming 1 0 7 3 0 1 ∷ plain 2 90 7 ∷ naming 4 100 7 1 2 0 ∷ [])) ≡ true ∷ true ∷ false ∷ []
+  pub device :
+      at012 (λ t. openToWork t (naming 1 0 7 3 0 1 ∷ plain 2 90 7 ∷ naming 4 100 7 1 2 0 ∷ []))
+      ≡ true ∷ true ∷ false ∷ []
   pub standing-3 : standing upTo3 ≡ never
   pub standing-6 : standing upTo6 ≡ since (asked 0) (clearing 115 512 0 3 0 1 ∷ [])
-  pub standing-8 : standing upTo8 ≡ since (asked 0) (clearing 115 512 0 3 0 1 ∷ naming 7 117 512 0 0 2 ∷ [])
+  pub standing-8 :
+      standing upTo8
+      ≡ since (asked 0) (clearing 115 512 0 3 0 1 ∷ naming 7 117 512 0 0 2 ∷ [])
   pub standing-10 : standing upTo10 ≡ never
   pub cancelled : standing (asked 0 ∷ plain 9 120 512 ∷ []) ≡ never
   pub cleared-3 : cleared 0 upTo3 ≡ false
@@ -114,21 +147,34 @@ pub record WordCases : Type 0 where
   -- no movement stands: a 6 without a 5 clears nothing
   pub cleared-alone : cleared 0 (clearing 115 512 0 3 0 1 ∷ []) ≡ false
   -- the clearance of one train is none for the next; a new 4 opens again what a 6 shut
-  pub next-train : at012 (λ t. cleared t (upTo10 ++ (naming 5 140 600 0 0 0 ∷ []))) ≡ false ∷ false ∷ false ∷ []
-  pub next-stands : standing (upTo10 ++ (naming 5 140 600 0 0 0 ∷ [])) ≡ since (naming 5 140 600 0 0 0) []
-  pub opened-again : at012 (λ t. openToWork t (upTo10 ++ (naming 4 140 7 1 0 0 ∷ []))) ≡ true ∷ true ∷ false ∷ []
+  pub next-train :
+      at012 (λ t. cleared t (upTo10 ++ (naming 5 140 600 0 0 0 ∷ [])))
+      ≡ false ∷ false ∷ false ∷ []
+  pub next-stands :
+      standing (upTo10 ++ (naming 5 140 600 0 0 0 ∷ []))
+      ≡ since (naming 5 140 600 0 0 0) []
+  pub opened-again :
+      at012 (λ t. openToWork t (upTo10 ++ (naming 4 140 7 1 0 0 ∷ [])))
+      ≡ true ∷ true ∷ false ∷ []
   -- the last 1 counts, and only from its own 2 on; what came before it does not
-  pub asked-again : at012 (λ t. underAgreedWork t (acceptedK ++ (naming 1 300 8 4 0 2 ∷ []))) ≡ false ∷ false ∷ false ∷ []
+  pub asked-again :
+      at012 (λ t. underAgreedWork t (acceptedK ++ (naming 1 300 8 4 0 2 ∷ [])))
+      ≡ false ∷ false ∷ false ∷ []
   pub agreed-again :
-      at012 (λ t. underAgreedWork t (acceptedK ++ (naming 1 300 8 4 0 2 ∷ plain 2 301 8 ∷ []))) ≡ false ∷ false ∷ true ∷ []
+      at012 (λ t. underAgreedWork t (acceptedK ++ (naming 1 300 8 4 0 2 ∷ plain 2 301 8 ∷ [])))
+      ≡ false ∷ false ∷ true ∷ []
   pub not-open-again :
-      at012 (λ t. openToWork t (acceptedK ++ (naming 1 300 8 7 0 2 ∷ plain 2 301 8 ∷ []))) ≡ false ∷ false ∷ false ∷ []
+      at012 (λ t. openToWork t (acceptedK ++ (naming 1 300 8 7 0 2 ∷ plain 2 301 8 ∷ [])))
+      ≡ false ∷ false ∷ false ∷ []
   -- a movement between the 2 and the 4 changes nothing of it
   pub open-later :
-      at012 (λ t. openToWork t (naming 1 0 7 3 0 1 ∷ plain 2 90 7 ∷ asked 0 ∷ naming 4 120 7 3 0 0 ∷ [])) ≡ true ∷ true ∷ false ∷ []
+      at012 (λ t. openToWork t
+      (naming 1 0 7 3 0 1 ∷ plain 2 90 7 ∷ asked 0 ∷ naming 4 120 7 3 0 0 ∷ []))
+      ≡ true ∷ true ∷ false ∷ []
   -- route 0 names turnouts 0 and 2
   pub of-route : at012 (ofItsRoute twoRoutes (asked 0)) ≡ true ∷ false ∷ true ∷ []
-  -- declaration 1 or 2 counts and 3 does not; nor does another train, another position or another turnout
+  -- declaration 1 or 2 counts and 3 does not; nor does another train, another position or another
+  -- turnout
   pub well : counts 0 0 (clearing 115 512 0 1 0 1) ≡ true
   pub well-2 : counts 0 0 (clearing 115 512 0 2 0 1) ≡ true
   pub declaration-3 : counts 0 0 (clearing 115 512 0 3 0 1) ≡ false
@@ -139,4 +185,6 @@ pub record WordCases : Type 0 where
   pub not-reverse : counts 1 2 (clearing 115 512 2 1 0 1) ≡ false
   -- turnout 0 lacks a clearance until it has one
   pub lacks-4 : at012 (lacks twoRoutes (take 4 acceptedK) (asked 0) []) ≡ true ∷ false ∷ false ∷ []
-  pub lacks-6 : at012 (lacks twoRoutes upTo6 (asked 0) (clearing 115 512 0 3 0 1 ∷ [])) ≡ false ∷ false ∷ false ∷ []
+  pub lacks-6 :
+      at012 (lacks twoRoutes upTo6 (asked 0) (clearing 115 512 0 3 0 1 ∷ []))
+      ≡ false ∷ false ∷ false ∷ []

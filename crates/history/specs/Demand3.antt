@@ -1,5 +1,5 @@
--- Demand 3, as one statement over any desk: what holds after every list of hearings from its fresh state, on the station of every sheet
--- that is accepted.
+-- Demand 3, as one statement over any desk: what holds after every list of hearings from its fresh
+-- state, on the station of every sheet that is accepted.
 use mathlib.Core.Bool.{true}
 use mathlib.Core.Logic.{_↔_}
 use mathlib.Core.List.{List}
@@ -15,7 +15,8 @@ use Rattle.desk.specs.Desk.{freshDesk, applied, appliedRecord}
 use Rattle.desk.specs.Questions.{movementAnswered, workAnswered}
 use Rattle.history.specs.Since.{since}
 use Rattle.history.specs.History.{openToWork, standing, cleared, EachWorkedCleared}
-use Rattle.history.specs.Lists.{Input, message, bytes, Heard, Model, answers, kept, keptAnswers, deskAfter, zoneMessages}
+use Rattle.history.specs.Lists.{Input, message, bytes, Heard, Model, answers, kept}
+use Rattle.history.specs.Lists.{keptAnswers, deskAfter, zoneMessages}
 
 -- the desk of the contracts: its definitions are those that the calls' `ensures` cite
 abbrev pub heardBy : Applied → Heard Desk
@@ -26,7 +27,13 @@ hears st d (message m) = heardBy (applied st d m)
 hears st d (bytes s) = heardBy (appliedRecord st d s)
 
 abbrev pub ours : Model
-ours = record { State = Desk; fresh = freshDesk; hear = hears; movement = movementAnswered; work = workAnswered }
+ours = record {
+  State = Desk;
+  fresh = freshDesk;
+  hear = hears;
+  movement = movementAnswered;
+  work = workAnswered;
+}
 
 -- what holds after a list, for a desk on a station
 pub record Holds (D : Model) (st : Station) (inputs : List Input) : Type 0 where
@@ -39,15 +46,23 @@ pub record Holds (D : Model) (st : Station) (inputs : List Input) : Type 0 where
   pub work :
       (t : ℕ) → (D .work st (deskAfter D st inputs) t .yes ≡ true)
       ↔ ((z : ℕ) × (openToWork t (zoneMessages D st inputs z) ≡ true))
-  -- "A standing movement is answered 'signals clear' exactly when each turnout of its route under agreed work has .. all efficient."
+  -- "A standing movement is answered 'signals clear' exactly when each turnout of its route under
+  -- agreed work has .. all efficient."
   pub clear :
-      (z : ℕ) (f : Message) (rest : List Message) → standing (zoneMessages D st inputs z) ≡ since f rest
+      (z : ℕ) (f : Message) (rest : List Message)
+      → standing (zoneMessages D st inputs z) ≡ since f rest
       → (D .movement st (deskAfter D st inputs) z (f .id) .regime ≡ Clear)
       ↔ EachWorkedCleared st (zoneMessages D st inputs z) f rest
-  -- "Striking the refused messages from the list gives the same desk, and the messages kept get the same answers as before."
+  -- "Striking the refused messages from the list gives the same desk, and the messages kept get the
+  -- same answers as before."
   pub same-desk : deskAfter D st (kept D st (D .fresh) inputs) ≡ deskAfter D st inputs
-  pub same-answers : answers D st (D .fresh) (kept D st (D .fresh) inputs) ≡ keptAnswers D st (D .fresh) inputs
+  pub same-answers :
+      answers D st (D .fresh) (kept D st (D .fresh) inputs)
+      ≡ keptAnswers D st (D .fresh) inputs
 
--- demand 3 of a desk: "For every station sheet accepted and every list of messages heard from its fresh desk"
+-- demand 3 of a desk: "For every station sheet accepted and every list of messages heard from its
+-- fresh desk"
 abbrev pub Demand3 : Model → Type 0
-Demand3 D = (sheet : List ℕ) → readSheet sheet .code ≡ 0 → (inputs : List Input) → Holds D (readSheet sheet .station) inputs
+Demand3 D =
+    (sheet : List ℕ) → readSheet sheet .code ≡ 0 → (inputs : List Input)
+    → Holds D (readSheet sheet .station) inputs

@@ -1,5 +1,6 @@
--- Document 01, 'History, for demand 3': "Over accepted messages of a zone, in order; a 1 or 10 names what its a holds, a 6 its d0."
--- These definitions share nothing with the desk's rules but set membership and the station.
+-- Document 01, 'History, for demand 3': "Over accepted messages of a zone, in order; a 1 or 10
+-- names what its a holds, a 6 its d0." These definitions share nothing with the desk's rules but
+-- set membership and the station.
 use mathlib.Core.Bool.{Bool, true, false, cond, not, _&&_, _||_}
 use mathlib.Core.List.{List}
 use mathlib.Core.Path.{_≡_}
@@ -53,7 +54,8 @@ abbrev pub askedIn : ℕ → Since → Bool
 askedIn t never = false
 askedIn t (since q rest) = has (q .a) t
 
--- "Under agreed work: the last kind 1 names the turnout, a 2 follows it, and after it no 10 naming the turnout and no 11."
+-- "Under agreed work: the last kind 1 names the turnout, a 2 follows it, and after it no 10 naming
+-- the turnout and no 11."
 unfoldable pub underAgreedWork : ℕ → List Message → Bool
 underAgreedWork t H = askedIn t (asking H) && lasting t (agreement H)
 
@@ -62,7 +64,8 @@ abbrev pub opened : ℕ → Since → Bool
 opened t never = false
 opened t (since g later) = anyThenNone (opens t) (clears t) later
 
--- "Open to work: under agreed work, with a 4 naming it in a or b after that 2 and no 6 naming it after that 4."
+-- "Open to work: under agreed work, with a 4 naming it in a or b after that 2 and no 6 naming it
+-- after that 4."
 unfoldable pub openToWork : ℕ → List Message → Bool
 openToWork t H = underAgreedWork t H && opened t (agreement H)
 
@@ -87,8 +90,8 @@ cleared t H = clearedAfter t (standing H)
 abbrev pub ofItsRoute : Station → Message → ℕ → Bool
 ofItsRoute st f t = has (namedBy (theRoute st (f .d0))) t
 
--- "Clearance for that train, in the route's position, all efficient: after that 5 a 6 naming the turnout, with the same id, d2 1 if in
--- the route's reverse and else 0, declaration 1 or 2."
+-- "Clearance for that train, in the route's position, all efficient: after that 5 a 6 naming the
+-- turnout, with the same id, d2 1 if in the route's reverse and else 0, declaration 1 or 2."
 abbrev pub clearsWell : Station → Message → ℕ → Message → Bool
 clearsWell st f t m =
     clears t m
@@ -96,13 +99,15 @@ clearsWell st f t m =
     && eqb (m .d2) (cond (has (theRoute st (f .d0) .reverse) t) 1 0)
     && (eqb (m .d1) 1 || eqb (m .d1) 2)
 
--- "each turnout of its route under agreed work has, among the messages accepted since that movement was asked, a clearance for that
--- train in the route's position with rods, lock and detection all efficient": of a movement asked by f, the messages H of its zone and
--- those after f
+-- "each turnout of its route under agreed work has, among the messages accepted since that movement
+-- was asked, a clearance for that train in the route's position with rods, lock and detection all
+-- efficient": of a movement asked by f, the messages H of its zone and those after f
 abbrev pub EachWorkedCleared : Station → List Message → Message → List Message → Type 0
 EachWorkedCleared st H f rest =
-    (t : ℕ) → ofItsRoute st f t ≡ true → underAgreedWork t H ≡ true → any (clearsWell st f t) rest ≡ true
+    (t : ℕ) → ofItsRoute st f t ≡ true → underAgreedWork t H ≡ true
+    → any (clearsWell st f t) rest ≡ true
 
--- a turnout of its route under agreed work that has no clearance at all since that movement was asked
+-- a turnout of its route under agreed work that has no clearance at all since that movement was
+-- asked
 abbrev pub lacks : Station → List Message → Message → List Message → ℕ → Bool
 lacks st H f rest t = ofItsRoute st f t && underAgreedWork t H && not (any (clears t) rest)

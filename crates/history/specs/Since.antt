@@ -1,4 +1,5 @@
--- A message of a list and what follows it: how document 01's section 'History' speaks of a list of messages, oldest first.
+-- A message of a list and what follows it: how document 01's section 'History' speaks of a list of
+-- messages, oldest first.
 use mathlib.Core.Bool.{Bool, false, cond, not, _&&_, _||_}
 use mathlib.Core.List.{List, [], _∷_}
 use Rattle.message.specs.declared.Message.{Message}

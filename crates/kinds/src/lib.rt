@@ -1,5 +1,5 @@
-// The twelve kinds of message over one zone (document 01's table of kinds): each is its checks, in the written order, and its
-// effect. The rules are in the crate `rules`, specs/Kinds.antt.
+// The twelve kinds of message over one zone (document 01's table of kinds): each is its checks, in the written order,
+// and its effect. The rules are in the crate `rules`, specs/Kinds.antt.
 ghost use mathlib.Core.Path.{_≡_};
 ghost use Rattle.rules.specs.Kinds.{answered, heardOn};
 

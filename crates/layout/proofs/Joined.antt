@@ -11,21 +11,27 @@ three a b c h =
     (inner .0, inner .1, outer .1)
 
 -- each of four
-pub four : (a b c d : Bool) → (a && b && c && d) ≡ true → (a ≡ true) × (b ≡ true) × (c ≡ true) × (d ≡ true)
+pub four :
+    (a b c d : Bool) → (a && b && c && d) ≡ true →
+    (a ≡ true) × (b ≡ true) × (c ≡ true) × (d ≡ true)
 four a b c d h =
     let outer = and-eq-true-iff (a && b && c) d .0 h in
     let inner = three a b c (outer .0) in
     (inner .0, inner .1, inner .2, outer .1)
 
 -- each of five
-pub five : (a b c d e : Bool) → (a && b && c && d && e) ≡ true → (a ≡ true) × (b ≡ true) × (c ≡ true) × (d ≡ true) × (e ≡ true)
+pub five :
+    (a b c d e : Bool) → (a && b && c && d && e) ≡ true →
+    (a ≡ true) × (b ≡ true) × (c ≡ true) × (d ≡ true) × (e ≡ true)
 five a b c d e h =
     let outer = three (a && b && c) d e h in
     let inner = three a b c (outer .0) in
     (inner .0, inner .1, inner .2, outer .1, outer .2)
 
 -- each of six
-pub six : (a b c d e f : Bool) → (a && b && c && d && e && f) ≡ true → (a ≡ true) × (b ≡ true) × (c ≡ true) × (d ≡ true) × (e ≡ true) × (f ≡ true)
+pub six :
+    (a b c d e f : Bool) → (a && b && c && d && e && f) ≡ true →
+    (a ≡ true) × (b ≡ true) × (c ≡ true) × (d ≡ true) × (e ≡ true) × (f ≡ true)
 six a b c d e f h =
     let outer = and-eq-true-iff (a && b && c && d && e) f .0 h in
     let inner = five a b c d e (outer .0) in

@@ -11,7 +11,8 @@ use Rattle.station.specs.declared.Route.{Route}
 use Rattle.station.specs.declared.Station.{Station}
 use Rattle.station.specs.Station.{emptyTurnout, emptyRoute}
 
--- "Header, 8 bytes: the letters SPT, version (16 bits, 1), counts P of turnouts .., R of routes .., Z of zones .., a byte each."
+-- "Header, 8 bytes: the letters SPT, version (16 bits, 1), counts P of turnouts .., R of routes ..,
+-- Z of zones .., a byte each."
 abbrev pub hasMark : List ℕ → Bool
 hasMark s = eqb (getD s 0 0) 83 && eqb (getD s 1 0) 80 && eqb (getD s 2 0) 84
 
@@ -46,7 +47,8 @@ sheetLength p r = 8 + 3 * p + 33 * r
 abbrev pub lengthKept : List ℕ → Bool
 lengthKept s = eqb (length s) (sheetLength (countP s) (countR s))
 
--- "Order: under 8 bytes, mark, version, counts (zone byte included), length": the number of the first that fails, else 0
+-- "Order: under 8 bytes, mark, version, counts (zone byte included), length": the number of the
+-- first that fails, else 0
 unfoldable pub headerNumber : List ℕ → ℕ
 headerNumber s =
     cond (ltb (length s) 8) 1
@@ -58,9 +60,11 @@ headerNumber s =
 
 -- "turnout records of 3 bytes: zone ..; partner ..; drive ..": the record at an index
 abbrev pub turnoutIn : List ℕ → ℕ → Turnout
-turnoutIn s at = record { zone = getD s at 0; partner = getD s (at + 1) 0; drive = getD s (at + 2) 0 }
+turnoutIn s at =
+    record { zone = getD s at 0; partner = getD s (at + 1) 0; drive = getD s (at + 2) 0 }
 
--- "routes of 33 bytes: zone, then the sets run over, flank, exit zone, reverse": the record at an index
+-- "routes of 33 bytes: zone, then the sets run over, flank, exit zone, reverse": the record at an
+-- index
 abbrev pub routeIn : List ℕ → ℕ → Route
 routeIn s at = record {
   zone = getD s at 0;

@@ -1,5 +1,5 @@
-// The bytes of a station sheet (document 01, 'Station sheet'): its header's number, and the station that stands in them. The rules
-// are in specs/Layout.antt. The crate `sheet` judges the station.
+// The bytes of a station sheet (document 01, 'Station sheet'): its header's number, and the station that stands in
+// them. The rules are in specs/Layout.antt. The crate `sheet` judges the station.
 ghost use mathlib.Core.Path.{_≡_};
 ghost use Prim.Native.Nat.{_<_};
 ghost use Rattle.layout.specs.Layout.{

@@ -1,5 +1,6 @@
--- The field rules of a message: document 01, 'Message record', and the column 'Fields' of its table of kinds.
--- One number, `fieldNumber`, says what a message gets for its own fields; reader, writer and desk go by it.
+-- The field rules of a message: document 01, 'Message record', and the column 'Fields' of its table
+-- of kinds. One number, `fieldNumber`, says what a message gets for its own fields; reader, writer
+-- and desk go by it.
 use mathlib.Core.Bool.{Bool, true, false, cond, not, _&&_, _||_}
 use mathlib.Core.List.{List, [], _∷_}
 use Prim.Native.Nat.{ℕ}
@@ -19,7 +20,8 @@ l to m = record { least = l; most = m }
 abbrev pub inSpan : Span → ℕ → Bool
 inSpan s d = leb (s .least) d && leb d (s .most)
 
--- What a kind names of the sets and details; the details from d0 on. Every kind names zone, time and id.
+-- What a kind names of the sets and details; the details from d0 on. Every kind names zone, time
+-- and id.
 pub record Named : Type 0 where
   pub a : Bool
   pub b : Bool
@@ -28,7 +30,8 @@ pub record Named : Type 0 where
 abbrev pub nothing : Named
 nothing = record { a = false; b = false; spans = [] }
 
--- "d0 turnout 0-63; d1 declaration 1-9; d2 0 normal, 1 reverse; d3 0 no clamp, 1 clamp, 2 attended; d4 1 voice, 2 written"
+-- "d0 turnout 0-63; d1 declaration 1-9; d2 0 normal, 1 reverse; d3 0 no clamp, 1 clamp, 2 attended;
+-- d4 1 voice, 2 written"
 abbrev pub clearanceSpans : List Span
 clearanceSpans = (0 to 63) ∷ (1 to 9) ∷ (0 to 1) ∷ (0 to 2) ∷ (1 to 2) ∷ []
 
@@ -92,6 +95,7 @@ fieldsKept m = idKept (m .kind) (m .id) && namedKept (named (m .kind)) m
 abbrev pub isKind : ℕ → Bool
 isKind kind = leb 1 kind && leb kind 12
 
--- 11 for a kind that is none, then 13 for a field that breaks its rule; 0 for a message that a record carries
+-- 11 for a kind that is none, then 13 for a field that breaks its rule; 0 for a message that a
+-- record carries
 unfoldable pub fieldNumber : Message → ℕ
 fieldNumber m = cond (isKind (m .kind)) (cond (fieldsKept m) 0 13) 11

@@ -10,8 +10,8 @@ use Rattle.message.specs.declared.Reading.{Reading}
 use Rattle.message.specs.declared.Reading.the-variants.{Accepted, Refused}
 use Rattle.message.specs.Fields.{details, fieldNumber}
 
--- "Kind (1 byte), zone (1), time in seconds (4), id (4), sets a and b (8 each), details d0 to d5 (a byte each)": the message
--- that stands in the bytes
+-- "Kind (1 byte), zone (1), time in seconds (4), id (4), sets a and b (8 each), details d0 to d5 (a
+-- byte each)": the message that stands in the bytes
 unfoldable pub decoded : List ℕ → Message
 decoded s = record {
   kind = getD s 0 0;
@@ -30,14 +30,29 @@ decoded s = record {
 
 -- the 32 bytes of a message: the first 26, then the details
 unfoldable pub headBytes : Message → List ℕ
-headBytes m = m .kind ∷ m .zone ∷ (beBytes 4 (m .time) ++ (beBytes 4 (m .id) ++ (beBytes 8 (m .a) ++ beBytes 8 (m .b))))
+headBytes m =
+    m .kind ∷ m .zone
+    ∷ (beBytes 4 (m .time) ++ (beBytes 4 (m .id) ++ (beBytes 8 (m .a) ++ beBytes 8 (m .b))))
 
 unfoldable pub encoded : Message → List ℕ
 encoded m = headBytes m ++ details m
 
 -- a message with every field 0: what a refused reading gives
 abbrev pub emptyMessage : Message
-emptyMessage = record { kind = 0; zone = 0; time = 0; id = 0; a = 0; b = 0; d0 = 0; d1 = 0; d2 = 0; d3 = 0; d4 = 0; d5 = 0 }
+emptyMessage = record {
+  kind = 0;
+  zone = 0;
+  time = 0;
+  id = 0;
+  a = 0;
+  b = 0;
+  d0 = 0;
+  d1 = 0;
+  d2 = 0;
+  d3 = 0;
+  d4 = 0;
+  d5 = 0;
+}
 
 -- the answer of reading a record: 0 and the message, or the number that refuses it
 pub record ReadAnswer : Type 0 where
@@ -59,7 +74,9 @@ readingOf (Refused number) = refused number
 unfoldable pub readRecord : List ℕ → ReadAnswer
 readRecord s =
     cond (eqb (length s) 32)
-    (cond (eqb (fieldNumber (decoded s)) 0) (accepted (decoded s)) (refused (fieldNumber (decoded s))))
+    (cond (eqb (fieldNumber (decoded s)) 0)
+    (accepted (decoded s))
+    (refused (fieldNumber (decoded s))))
     (refused 10)
 
 -- the answer of writing a record: the number, and the whole buffer
@@ -67,9 +84,12 @@ pub record WriteAnswer : Type 0 where
   pub code : ℕ
   pub bytes : List ℕ
 
--- "writing it is refused by 13, a buffer that is not 32 bytes by 10"; a refusal leaves the buffer as it was
+-- "writing it is refused by 13, a buffer that is not 32 bytes by 10"; a refusal leaves the buffer
+-- as it was
 unfoldable pub written : Message → List ℕ → WriteAnswer
 written m s =
     cond (eqb (length s) 32)
-    (cond (eqb (fieldNumber m) 0) (record { code = 0; bytes = encoded m }) (record { code = 13; bytes = s }))
+    (cond (eqb (fieldNumber m) 0)
+    (record { code = 0; bytes = encoded m })
+    (record { code = 13; bytes = s }))
     (record { code = 10; bytes = s })

@@ -1,7 +1,18 @@
 // The field rules of document 01's table of kinds: the id, the sets and the details that each kind names.
 ghost use mathlib.Core.Path.{_≡_};
 ghost use mathlib.Core.List.{[], _∷_};
-ghost use Rattle.message.specs.Fields.{inSpan, _to_, details, detailsKept, clearanceSpans, setKept, idKept, named, namedKept, fieldsKept};
+ghost use Rattle.message.specs.Fields.{
+  inSpan,
+  _to_,
+  details,
+  detailsKept,
+  clearanceSpans,
+  setKept,
+  idKept,
+  named,
+  namedKept,
+  fieldsKept,
+};
 ghost use mathlib.Core.Bool.{false, _&&_};
 use super::Message;
 use super::RECORDER;

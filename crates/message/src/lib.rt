@@ -1,5 +1,6 @@
-// Messages of the works desk and their 32-byte records (document 01, 'Message record'): the field rules, reading and writing.
-// The rules are in specs/: Fields.antt has the table's column of fields, Record.antt the layout and both answers.
+// Messages of the works desk and their 32-byte records (document 01, 'Message record'): the field rules, reading and
+// writing. The rules are in specs/: Fields.antt has the table's column of fields, Record.antt the layout and both
+// answers.
 ghost use mathlib.Core.Path.{_≡_};
 ghost use Rattle.message.specs.Fields.{fieldNumber};
 ghost use Rattle.message.specs.Record.{readingOf, readRecord, written};
@@ -105,8 +106,8 @@ pub fn reading_code(reading: Reading) -> u8
     }
 }
 
-// Writes a message as a record into the buffer. Refused by 10 for a buffer that is not 32 bytes, then by 13 for a message that
-// no record carries; the buffer then stays as it was.
+// Writes a message as a record into the buffer. Refused by 10 for a buffer that is not 32 bytes, then by 13 for a
+// message that no record carries; the buffer then stays as it was.
 pub fn write_record(m: Message, s: &mut [u8]) -> u8
     ensures { λ r. ⌜ record { code = r; bytes = now (s .exit) } ≡ written m (now (s .entry)) ⌝ }
 {

@@ -1,4 +1,5 @@
--- Every value of a packed answer comes back where it is below 256; the regime and yes need that of the code alone.
+-- Every value of a packed answer comes back where it is below 256; the regime and yes need that of
+-- the code alone.
 use mathlib.Core.Bool.{Bool, true, false, cond}
 use mathlib.Core.Path.{_≡_, refl, ap, _∙_}
 use Prim.Native.Nat.{ℕ, _+_, _*_, _<_}
@@ -57,7 +58,10 @@ module _ (a : MovementAnswer) where
         code-byte = ap (byteOf 0) nested ∙ packing.lowest-byte (a .code) upper code-fits;
         regime-byte = regime-byte code-fits;
         lowest-byte = second ∙ packing.lowest-byte (a .lowest) (a .count) lowest-fits;
-        count-byte = third ∙ packing.byte-next 0 (a .lowest) (a .count) lowest-fits ∙ mod-eq-of-lt count-fits;
+        count-byte =
+            third
+            ∙ packing.byte-next 0 (a .lowest) (a .count) lowest-fits
+            ∙ mod-eq-of-lt count-fits;
       }
 
 -- yes as the byte above the code

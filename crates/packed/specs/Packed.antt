@@ -1,4 +1,5 @@
--- Answers of several values as one number: the code in its lowest byte, and the other values above it.
+-- Answers of several values as one number: the code in its lowest byte, and the other values above
+-- it.
 use mathlib.Core.Bool.{cond}
 use Prim.Native.Nat.{ℕ, _+_, _*_}
 use Rattle.zone.specs.declared.Regime.{Regime}
@@ -18,7 +19,8 @@ regimeNumber Danger = 2
 
 -- the movement question: the code, the regime, the lowest turnout, the count, a byte each
 abbrev pub movementPacked : MovementAnswer → ℕ
-movementPacked a = a .code + 256 * regimeNumber (a .regime) + 65536 * a .lowest + 16777216 * a .count
+movementPacked a =
+    a .code + 256 * regimeNumber (a .regime) + 65536 * a .lowest + 16777216 * a .count
 
 -- the work question: the code, and 256 more for yes
 abbrev pub workPacked : WorkAnswer → ℕ

@@ -12,7 +12,8 @@ pub record AnswerBytes (code minutes : ℕ) : Type 0 where
   pub code-byte : byteOf 0 (answerPacked code minutes) ≡ code
   pub minutes-above : above 1 (answerPacked code minutes) ≡ minutes
 
--- the movement question: byte 0 is the code, byte 1 the regime, byte 2 the lowest turnout, byte 3 the count
+-- the movement question: byte 0 is the code, byte 1 the regime, byte 2 the lowest turnout, byte 3
+-- the count
 pub record MovementBytes (a : MovementAnswer) : Type 0 where
   pub code-byte : byteOf 0 (movementPacked a) ≡ a .code
   pub regime-byte : byteOf 1 (movementPacked a) ≡ regimeNumber (a .regime)

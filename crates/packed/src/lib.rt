@@ -1,5 +1,5 @@
-// The answer to a record and those to the two questions, packed in one number each, for callers in C or Rust. The packing is in
-// specs/Packed.antt; that every value comes back, in specs/Unpacked.antt and proofs/Unpacked.antt.
+// The answer to a record and those to the two questions, packed in one number each, for callers in C or Rust. The
+// packing is in specs/Packed.antt; that every value comes back, in specs/Unpacked.antt and proofs/Unpacked.antt.
 ghost use mathlib.Core.Path.{_≡_};
 ghost use Rattle.packed.specs.Packed.{answerPacked, regimeNumber, movementPacked, workPacked};
 use desk::MovementAnswer;
@@ -24,7 +24,8 @@ fn regime_number(regime: Regime) -> u8
     }
 }
 
-// The movement question's answer: the code, the regime, the lowest turnout lacking a clearance, how many lack one, a byte each.
+// The movement question's answer: the code, the regime, the lowest turnout lacking a clearance, how many lack one, a
+// byte each.
 pub fn movement_packed(a: MovementAnswer) -> u64
     ensures { λ r. ⌜ r ≡ movementPacked a ⌝ }
 {

@@ -9,13 +9,15 @@ use Rattle.packing.specs.Bytes.{above, byteOf}
 pub lowest-byte : (low rest : ℕ) → low < 256 → byteOf 0 (low + 256 * rest) ≡ low
 unfolding above
 lowest-byte low rest fits =
-    ap (λ (n : ℕ). n % 256) (add-comm low (256 * rest) ∙ ap (λ (n : ℕ). n + low) (mul-comm 256 rest)) ∙ digits-mod rest fits
+    let turned = add-comm low (256 * rest) ∙ ap (λ (n : ℕ). n + low) (mul-comm 256 rest) in
+    ap (λ (n : ℕ). n % 256) turned ∙ digits-mod rest fits
 
 -- what stands above it, k bytes further on
 pub above-next : (k low rest : ℕ) → low < 256 → above (suc k) (low + 256 * rest) ≡ above k rest
 unfolding above
 above-next k low rest fits =
-    ap (λ (n : ℕ). above k (n / 256)) (add-comm low (256 * rest) ∙ ap (λ (n : ℕ). n + low) (mul-comm 256 rest))
+    let turned = add-comm low (256 * rest) ∙ ap (λ (n : ℕ). n + low) (mul-comm 256 rest) in
+    ap (λ (n : ℕ). above k (n / 256)) turned
     ∙ ap (above k) (digits-div rest fits)
 
 -- byte k of it is byte k + 1 of the whole

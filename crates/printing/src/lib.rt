@@ -1,5 +1,6 @@
-// Printing the text of a sheet and a journal that stand in files: what the desk program does, for any names. The text is
-// `desk_text`'s; what is proved here is that the program's buffers hold all of it, and that printing is safe and ends.
+// Printing the text of a sheet and a journal that stand in files: what the desk program does, for any names. The text
+// is `desk_text`'s; what is proved here is that the program's buffers hold all of it, and that printing is safe and
+// ends.
 ghost use Prim.Native.Nat.{_≤_};
 ghost use lib.ListN.{length};
 ghost use Rattle.io.specs.Counts.{Counts};
@@ -19,7 +20,10 @@ fn text_of_files(sheet: &[u8], n: usize, journal: &[u8], m: usize, out: &mut [u8
     requires { ⌜ 32784 ≤ length (now journal) ⌝ }
     requires { ⌜ Counts m (now journal) ⌝ }
     requires { ⌜ 33792 ≤ length (now out) ⌝ }
-    ensures { λ r. ⌜ TextOfFiles (now (sheet .entry)) n (now (journal .entry)) m (now (out .entry)) (record { place = r; bytes = now (out .exit) }) ⌝ }
+    ensures { λ r. ⌜
+        TextOfFiles (now (sheet .entry)) n (now (journal .entry)) m (now (out .entry))
+        (record { place = r; bytes = now (out .exit) })
+        ⌝ }
     ensures { λ r. ⌜ Counts r (now (out .exit)) ⌝ }
 {
     desk_text::put_text(&sheet[..n], &journal[..m], out)

@@ -71,8 +71,8 @@ const SHARED: [Case; 30] = [
 
 pub const OWN_COUNT: usize = 30;
 
-// The cases of one kind: the ends of the ranges of its details and the values next to them, bad kinds, and bad fields under a bad
-// kind.
+// The cases of one kind: the ends of the ranges of its details and the values next to them, bad kinds, and bad fields
+// under a bad kind.
 const OWN: [OwnCase; 30] = [
     OwnCase(1, D0, 2),
     OwnCase(1, D0, 3),

@@ -1,4 +1,5 @@
-// One good message of each kind: zone 3, time 1000, id 7 (0 for kind 12), the sets and details that the kind names, else 0.
+// One good message of each kind: zone 3, time 1000, id 7 (0 for kind 12), the sets and details that the kind names,
+// else 0.
 
 // The id.
 fn id(kind: u8) -> u32 {

@@ -1,13 +1,15 @@
-// Tries the field rules of message records (document 01, 'Message record') on worked numbers. A rule that refuses everything, or
-// one that accepts everything, could still be proved to keep the layout and the round trips; what this program writes shows which
-// records are accepted. The expected lines are in stdout, written from the document; no expected number stands here.
+// Tries the field rules of message records (document 01, 'Message record') on worked numbers. A rule that refuses
+// everything, or one that accepts everything, could still be proved to keep the layout and the round trips; what this
+// program writes shows which records are accepted. The expected lines are in stdout, written from the document; no
+// expected number stands here.
 //
-// A line for each case: KIND FIELD VALUE READ WRITE. The case is the good message of KIND with VALUE put into FIELD ('-' and 0: the
-// good message itself). READ is what reading its 32 bytes gives (0: accepted), WRITE what writing the message gives.
-// Then lines 'length N READ WRITE KEPT' for a good message, one with a bad field and one with a bad kind: READ is what reading the
-// first N bytes of its record (with one byte more for 33) gives, WRITE what writing the message into N bytes gives, and KEPT is 1 if
-// the buffer is then as it was. Last, of how many accepted records the message that was read was written as the same 32 bytes, and
-// how many cases were accepted.
+// A line for each case: KIND FIELD VALUE READ WRITE. The case is the good message of KIND with VALUE put into FIELD
+// ('-' and 0: the good message itself). READ is what reading its 32 bytes gives (0: accepted), WRITE what writing the
+// message gives.
+// Then lines 'length N READ WRITE KEPT' for a good message, one with a bad field and one with a bad kind: READ is
+// what reading the first N bytes of its record (with one byte more for 33) gives, WRITE what writing the message into
+// N bytes gives, and KEPT is 1 if the buffer is then as it was. Last, of how many accepted records the message that
+// was read was written as the same 32 bytes, and how many cases were accepted.
 mod bytes;
 mod cases;
 mod good;

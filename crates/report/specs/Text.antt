@@ -1,5 +1,6 @@
--- The text of answers: document 01, 'Station K': "prints per record: its number from 1, the code, the minutes. A refused sheet, else a
--- refused journal, prints only its refusal number, on one line."
+-- The text of answers: document 01, 'Station K': "prints per record: its number from 1, the code,
+-- the minutes. A refused sheet, else a refused journal, prints only its refusal number, on one
+-- line."
 use mathlib.Core.Bool.{cond}
 use mathlib.Core.List.{List, [], _∷_, _++_}
 use Prim.Native.Nat.{ℕ, zero, suc, _+_, _/_, _%_}
@@ -7,7 +8,8 @@ use lib.Dec.{eqb, ltb}
 use lib.ListN.{length, set}
 use Rattle.report.specs.Answers.{codeIn, minutesIn}
 
--- the decimal digits of n, in ASCII, the most significant first, as the output of station K has them; k is as many as n may have
+-- the decimal digits of n, in ASCII, the most significant first, as the output of station K has
+-- them; k is as many as n may have
 unfoldable pub digits : ℕ → ℕ → List ℕ
 digits zero n = []
 digits (suc k) n = cond (ltb n 10) ((48 + n) ∷ []) (digits k (n / 10) ++ ((48 + n % 10) ∷ []))
@@ -36,7 +38,10 @@ pub record Filled : Type 0 where
 
 -- a byte put at a place; past the end nothing is stored
 unfoldable pub putByte : List ℕ → ℕ → ℕ → Filled
-putByte s at b = cond (ltb at (length s)) (record { place = at + 1; bytes = set s at b }) (record { place = at; bytes = s })
+putByte s at b =
+    cond (ltb at (length s))
+    (record { place = at + 1; bytes = set s at b })
+    (record { place = at; bytes = s })
 
 unfoldable pub putAll : List ℕ → ℕ → List ℕ → Filled
 putAll s at [] = record { place = at; bytes = s }

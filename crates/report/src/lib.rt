@@ -1,6 +1,7 @@
-// The answers to a journal's records, as bytes and as text. Answer n of a list stands in the five bytes from 5 x n on: the code, then
-// the minutes in four bytes (document 01, 'Numbers the desk returns' and 'Station K'). Every function takes buffers of any length:
-// what does not fit is not stored. The rules are in specs/: Answers.antt has the bytes, Text.antt the text.
+// The answers to a journal's records, as bytes and as text. Answer n of a list stands in the five bytes from 5 x n
+// on: the code, then the minutes in four bytes (document 01, 'Numbers the desk returns' and 'Station K'). Every
+// function takes buffers of any length: what does not fit is not stored. The rules are in specs/: Answers.antt has
+// the bytes, Text.antt the text.
 ghost use mathlib.Core.Path.{_≡_};
 ghost use Rattle.report.specs.Answers.{withAnswer};
 ghost use Rattle.report.specs.Text.{decimal, lineOf, textOf, putByte, putAll};
@@ -41,7 +42,10 @@ pub fn put_decimal(out: &mut [u8], at: usize, n: u32) -> usize
 
 // Puts one line: three numbers.
 fn put_line(out: &mut [u8], at: usize, n: u32, code: u8, minutes: u32) -> usize
-    ensures { λ r. ⌜ record { place = r; bytes = now (out .exit) } ≡ putAll (now (out .entry)) at (lineOf n code minutes) ⌝ }
+    ensures { λ r. ⌜
+        record { place = r; bytes = now (out .exit) }
+        ≡ putAll (now (out .entry)) at (lineOf n code minutes)
+        ⌝ }
 {
     let a = put_decimal(out, at, n);
     let b = put_byte(out, a, b' ');
@@ -51,10 +55,13 @@ fn put_line(out: &mut [u8], at: usize, n: u32, code: u8, minutes: u32) -> usize
     put_byte(out, e, b'\n')
 }
 
-// The text of a list of answers: a line for each, its number from 1, its code, its minutes; of a refusal its number on one line.
-// Says how long the text is that the buffer then holds from its start on.
+// The text of a list of answers: a line for each, its number from 1, its code, its minutes; of a refusal its number
+// on one line. Says how long the text is that the buffer then holds from its start on.
 pub fn text(code: u8, answers: &[u8], count: u32, out: &mut [u8]) -> usize
-    ensures { λ r. ⌜ record { place = r; bytes = now (out .exit) } ≡ putAll (now (out .entry)) 0 (textOf code (now (answers .entry)) count) ⌝ }
+    ensures { λ r. ⌜
+        record { place = r; bytes = now (out .exit) }
+        ≡ putAll (now (out .entry)) 0 (textOf code (now (answers .entry)) count)
+        ⌝ }
 {
     if code != 0 {
         let end = put_decimal(out, 0, code as u32);

@@ -11,7 +11,10 @@ use Rattle.rules.specs.Routes.{itsMovement, concerned, routeNumbers, byR
 pub concerned-by-records :
     (st : Station) (z : Zone) (m : Message)
     → let n = routeNumbers z m in
-    byRecords (st .routes) n (routeAt st (routeIndex (n .asked))) (routeAt st (routeIndex (n .its))) ≡ concerned st z m
+    byRecords (st .routes) n
+    (routeAt st (routeIndex (n .asked)))
+    (routeAt st (routeIndex (n .its)))
+    ≡ concerned st z m
 concerned-by-records st z m =
     let n = routeNumbers z m in
     let asked = route-by-record st (n .asked) in

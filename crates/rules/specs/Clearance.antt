@@ -18,7 +18,8 @@ positionFits r n position = eqb position (cond (has (r .reverse) n) 1 0)
 
 -- "d1 fits the drive (1, 2 either; 3-6 electric; 7-9 hand; Annex C)"
 abbrev pub driveFits : ℕ → ℕ → Bool
-driveFits declaration drive = cond (leb declaration 2) true (cond (leb declaration 6) (eqb drive 0) (eqb drive 1))
+driveFits declaration drive =
+    cond (leb declaration 2) true (cond (leb declaration 6) (eqb drive 0) (eqb drive 1))
 
 -- "For 4, 6, 9: 1 if run over, else 0. For 8: 1 or 2 if run over, else 0 .. Others: 0."
 abbrev pub clampFits : ℕ → Bool → ℕ → Bool

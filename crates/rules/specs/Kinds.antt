@@ -1,5 +1,6 @@
--- The twelve kinds over one zone: document 01's table of kinds, row by row. A row is the list of its checks after 14, in the
--- written order; effects are total functions of the zone and the message.
+-- The twelve kinds over one zone: document 01's table of kinds, row by row. A row is the list of
+-- its checks after 14, in the written order; effects are total functions of the zone and the
+-- message.
 use mathlib.Core.Bool.{Bool, true, cond, not, _&&_, _||_}
 use mathlib.Core.List.{List, [], _∷_}
 use Prim.Native.Nat.{ℕ}
@@ -16,8 +17,10 @@ use Rattle.zone.specs.declared.Movement.{Movement}
 use Rattle.zone.specs.declared.Movement.the-variants.{NoMovement}
 use Rattle.zone.specs.declared.Zone.{Zone}
 use Rattle.zone.specs.declared.Answer.{Answer}
-use Rattle.zone.specs.Work.{hasWork, isAgreed, underForm, manner, workSet, agreedAt, minutesBetween, askedFor, agreedFrom, openedTo, shutTo, restoredOf}
-use Rattle.zone.specs.Movement.{isStanding, isOrdered, clearedSet, workedTurnouts, regimeOn, orderRefused, movementFor, clearedAt, orderedAs}
+use Rattle.zone.specs.Work.{hasWork, isAgreed, underForm, manner, workSet, agreedAt, minutesBetween}
+use Rattle.zone.specs.Work.{askedFor, agreedFrom, openedTo, shutTo, restoredOf}
+use Rattle.zone.specs.Movement.{isStanding, isOrdered, clearedSet, workedTurnouts, regimeOn}
+use Rattle.zone.specs.Movement.{orderRefused, movementFor, clearedAt, orderedAs}
 use Rattle.zone.specs.Trains.{noPlace, namedStanding, clearedStanding, withMovement, changedUnder}
 use Rattle.zone.specs.Zone.{workOf, nextZone, refusedIn, settled}
 use Rattle.rules.specs.declared.Concerned.{Concerned}
@@ -29,7 +32,8 @@ pub data Check : Type 0 where
   _gives_ : Bool → ℕ → Check
 
 infix 20 _gives_
--- the number of the first check whose test holds, else 0; the rows have their checks in rising number
+-- the number of the first check whose test holds, else 0; the rows have their checks in rising
+-- number
 abbrev pub first : List Check → ℕ
 first [] = 0
 first ((test gives number) ∷ rest) = cond test number (first rest)
@@ -106,7 +110,8 @@ row2 st routes z m =
 abbrev pub row3 : Row
 row3 st routes z m = (noWorkUnder z m gives 15) ∷ (isAgreed (workOf z) gives 18) ∷ []
 
--- 4 detection off: "15; 17 ..; 18 not agreed; 19 a cleared turnout in a or b; 22 b not empty under verbal (3.19, 3.20)"
+-- 4 detection off: "15; 17 ..; 18 not agreed; 19 a cleared turnout in a or b; 22 b not empty under
+-- verbal (3.19, 3.20)"
 abbrev pub row4 : Row
 row4 st routes z m =
     (noWorkUnder z m gives 15)
@@ -118,7 +123,8 @@ row4 st routes z m =
 
 -- 5 movement asked: "16 movement in zone; 17 .."
 abbrev pub row5 : Row
-row5 st routes z m = (noPlace z gives 16) ∷ (badRoute st (routes .asked) (m .zone) (m .d0) gives 17) ∷ []
+row5 st routes z m =
+    (noPlace z gives 16) ∷ (badRoute st (routes .asked) (m .zone) (m .d0) gives 17) ∷ []
 
 -- 6 clearance: "15; 16 cleared already; 17 not under agreed work or not named; 20; 21"
 abbrev pub row6 : Row
@@ -140,7 +146,8 @@ row7 st routes z m =
 
 -- 8 passed: "15; 18 not ordered"
 abbrev pub row8 : Row
-row8 st routes z m = (noMovementUnder z m gives 15) ∷ (not (isOrdered (itsMovement z m)) gives 18) ∷ []
+row8 st routes z m =
+    (noMovementUnder z m gives 15) ∷ (not (isOrdered (itsMovement z m)) gives 18) ∷ []
 
 -- 9 cancelled: "15; 18 ordered"
 abbrev pub row9 : Row
@@ -174,7 +181,9 @@ noKind st routes z m = (true gives 11) ∷ []
 
 -- the table of kinds
 abbrev pub rows : List Row
-rows = noKind ∷ row1 ∷ row2 ∷ row3 ∷ row4 ∷ row5 ∷ row6 ∷ row7 ∷ row8 ∷ row9 ∷ row10 ∷ row11 ∷ row12 ∷ []
+rows =
+    noKind ∷ row1 ∷ row2 ∷ row3 ∷ row4 ∷ row5 ∷ row6
+    ∷ row7 ∷ row8 ∷ row9 ∷ row10 ∷ row11 ∷ row12 ∷ []
 
 unfoldable pub row : ℕ → Row
 row kind = getD rows kind noKind
@@ -232,7 +241,8 @@ minutesFor kind w m = cond (eqb kind 11) (minutesBetween (agreedAt w) (m .time))
 -- what each kind does to the zone
 unfoldable pub zoneAfter : ℕ → Zone → Message → Zone
 zoneAfter kind z m =
-    nextZone (moved kind z m) (workAfter kind (workOf z) m) (recorderAfter kind (z .recorder) m) (m .time)
+    nextZone (moved kind z m) (workAfter kind (workOf z) m)
+    (recorderAfter kind (z .recorder) m) (m .time)
 
 -- the checks of a kind, the routes being the station's
 abbrev pub checksOf : ℕ → Station → Zone → Message → List Check
@@ -243,8 +253,8 @@ unfoldable pub answered : ℕ → Station → Concerned → Zone → Message →
 answered kind st routes z m =
     settled z (first (row kind st routes z m)) (minutesFor kind (workOf z) m) (zoneAfter kind z m)
 
--- a message heard by its zone, after 11, 13 and 12, the routes being given: 14, "time before the zone's last accepted", then the checks of
--- its kind
+-- a message heard by its zone, after 11, 13 and 12, the routes being given: 14, "time before the
+-- zone's last accepted", then the checks of its kind
 unfoldable pub heardOn : Station → Concerned → Zone → Message → Answer
 heardOn st routes z m =
     cond (ltb (m .time) (z .time)) (refusedIn z 14) (answered (m .kind) st routes z m)

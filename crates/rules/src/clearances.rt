@@ -1,6 +1,13 @@
 // Whether a clearance fits its turnout, and its medium the recorder.
 ghost use mathlib.Core.Path.{_≡_};
-ghost use Rattle.rules.specs.Clearance.{isEfficient, positionFits, driveFits, clampFits, clearanceFits, mediumFits};
+ghost use Rattle.rules.specs.Clearance.{
+  isEfficient,
+  positionFits,
+  driveFits,
+  clampFits,
+  clearanceFits,
+  mediumFits,
+};
 use message::Message;
 use station::Route;
 use station::Station;

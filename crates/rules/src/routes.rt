@@ -1,5 +1,6 @@
-// The routes that bear on a message. Whoever keeps a station looks their records up himself, which copies nothing of it, by
-// `route_numbers`, `station::route_index` and `by_records`; `routes_concerned` does so with a station that it is given.
+// The routes that bear on a message. Whoever keeps a station looks their records up himself, which copies nothing of
+// it, by `route_numbers`, `station::route_index` and `by_records`; `routes_concerned` does so with a station that it
+// is given.
 ghost use mathlib.Core.Path.{_≡_};
 ghost use Rattle.rules.specs.Routes.{concerned, routeNumbers, byRecords};
 use super::Concerned;

@@ -5,13 +5,15 @@ use mathlib.Core.Path.{_≡_, refl, sym, ap, ap₂, _∙_}
 use Prim.Native.Nat.{ℕ, zero, suc, _+_, _-_, _*_, _/_, _%_, _^_, _<_, suc-le-suc, _≤_}
 use native.Mathlib.Nat.{pow-suc, lt-of-lt-of-le, zero-lt-suc, div-one, div-add-mod', lt-of-le-of-lt}
 use native.Mathlib.Omega.{arith}
-use borrow.Author.Tests.{eqb-true, eqb-false, eq-eqb, ne-eqb, not-true, not-false, ltb-true, ltb-false}
+use borrow.Author.Tests.{eqb-true, eqb-false, eq-eqb, ne-eqb, not-true, not-false, ltb-true}
+use borrow.Author.Tests.{ltb-false}
 use lib.Dec.{ltb}
 use lib.Arith.{lt-one}
 use lib.Pow.{pow-mono, pow-pos}
 use lib.Bits.{bitAnd, and-le-l, mask-lt}
 use Rattle.sets.specs.Sets.{has, isEmpty, overlaps, within}
-use Rattle.sets.proofs.Membership.{half-lt, digit-has, has-suc, has-and, has-zero, has-beyond}
+use Rattle.sets.proofs.Membership.{half-lt, digit-has, has-suc, has-and, has-zero}
+use Rattle.sets.proofs.Membership.{has-beyond}
 
 -- the lowest digit of s is 1 where turnout 0 is in s, and 0 where not
 digit-zero : (s : ℕ) → s % 2 ≡ cond (has s 0) 1 0
@@ -21,13 +23,16 @@ digit-zero s = rw div-one at (digit-has s 0)
 same-digits : (k a b : ℕ) → a < 2 ^ k → b < 2 ^ k → ((n : ℕ) → n < k → has a n ≡ has b n) → a ≡ b
 same-digits zero a b ha hb same = lt-one ha ∙ sym (lt-one hb)
 same-digits (suc k) a b ha hb same =
-    let later : (n : ℕ) → n < k → has (a / 2) n ≡ has (b / 2) n = λ n l. sym (has-suc a n) ∙ same (suc n) (suc-le-suc l) ∙ has-suc b n in
+    let later : (n : ℕ) → n < k → has (a / 2) n ≡ has (b / 2) n =
+    λ n l. sym (has-suc a n) ∙ same (suc n) (suc-le-suc l) ∙ has-suc b n in
     let higher = same-digits k (a / 2) (b / 2) (half-lt k ha) (half-lt k hb) later in
-    let first = digit-zero a ∙ ap (λ (x : Bool). cond x 1 0) (same 0 (zero-lt-suc k)) ∙ sym (digit-zero b) in
+    let first =
+    digit-zero a ∙ ap (λ (x : Bool). cond x 1 0) (same 0 (zero-lt-suc k)) ∙ sym (digit-zero b) in
     sym (div-add-mod' a 2) ∙ ap₂ (λ (q d : ℕ). q * 2 + d) higher first ∙ div-add-mod' b 2
 
 -- two words with the same members are the same
-pub same-members : (a b : ℕ) → a < 2 ^ 64 → b < 2 ^ 64 → ((n : ℕ) → n < 64 → has a n ≡ has b n) → a ≡ b
+pub same-members :
+    (a b : ℕ) → a < 2 ^ 64 → b < 2 ^ 64 → ((n : ℕ) → n < 64 → has a n ≡ has b n) → a ≡ b
 same-members = same-digits 64
 
 -- a set is empty exactly when it has no member
@@ -42,7 +47,9 @@ has-other : (a b n : ℕ) → has a n ≡ true → has b n ≡ has (bitAnd a b) 
 has-other a b n m = ap (λ (x : Bool). x && has b n) (sym m) ∙ sym (has-and a b n)
 
 -- whether n is in both, by whether it is in a
-has-both : (a b n : ℕ) (z : Bool) → (has a n ≡ false → false ≡ z) → (has a n ≡ true → has b n ≡ z) → has (bitAnd a b) n ≡ z
+has-both :
+    (a b n : ℕ) (z : Bool) → (has a n ≡ false → false ≡ z) → (has a n ≡ true → has b n ≡ z) →
+    has (bitAnd a b) n ≡ z
 has-both a b n z out member = has-and a b n ∙ go (has a n) out member
   where
     go : (x : Bool) → (x ≡ false → false ≡ z) → (x ≡ true → has b n ≡ z) → (x && has b n) ≡ z
@@ -54,15 +61,20 @@ both-lt : (a b : ℕ) → a < 2 ^ 64 → bitAnd a b < 2 ^ 64
 both-lt a b h = lt-of-le-of-lt (and-le-l a b) h
 
 -- a is within b exactly when each member of a is a member of b
-pub within-exactly : (a b : ℕ) → a < 2 ^ 64 → (within a b ≡ true) ↔ ((n : ℕ) → n < 64 → has a n ≡ true → has b n ≡ true)
+pub within-exactly :
+    (a b : ℕ) → a < 2 ^ 64 →
+    (within a b ≡ true) ↔ ((n : ℕ) → n < 64 → has a n ≡ true → has b n ≡ true)
 within-exactly a b h = (
   λ e n l m. has-other a b n m ∙ ap (λ (s : ℕ). has s n) (eqb-true (bitAnd a b) a e) ∙ m,
   λ each. eq-eqb (bitAnd a b) a
-      (same-members (bitAnd a b) a (both-lt a b h) h (λ n l. has-both a b n (has a n) sym (λ m. each n l m ∙ sym m))),
+      (same-members (bitAnd a b) a (both-lt a b h) h
+      (λ n l. has-both a b n (has a n) sym (λ m. each n l m ∙ sym m))),
 )
 
 -- a and b do not overlap exactly when no member of a is a member of b
-pub disjoint-exactly : (a b : ℕ) → a < 2 ^ 64 → (overlaps a b ≡ false) ↔ ((n : ℕ) → n < 64 → has a n ≡ true → has b n ≡ false)
+pub disjoint-exactly :
+    (a b : ℕ) → a < 2 ^ 64 →
+    (overlaps a b ≡ false) ↔ ((n : ℕ) → n < 64 → has a n ≡ true → has b n ≡ false)
 disjoint-exactly a b h =
     let none = empty-exactly (bitAnd a b) (both-lt a b h) in (
       λ e n l m. has-other a b n m ∙ none .0 (not-false (isEmpty (bitAnd a b)) e) n l,
@@ -74,7 +86,9 @@ some-member : (k s : ℕ) → s < 2 ^ k → isEmpty s ≡ false → (n : ℕ) ×
 some-member zero s h e = absurd (eqb-false s 0 e (lt-one h))
 some-member (suc k) s h e = go (has s 0) refl (some-member k (s / 2) (half-lt k h))
   where
-    go : (b : Bool) → has s 0 ≡ b → (isEmpty (s / 2) ≡ false → (n : ℕ) × (n < k) × (has (s / 2) n ≡ true))
+    go :
+        (b : Bool) → has s 0 ≡ b →
+        (isEmpty (s / 2) ≡ false → (n : ℕ) × (n < k) × (has (s / 2) n ≡ true))
         → (n : ℕ) × (n < suc k) × (has s n ≡ true)
     go true m later = (0, zero-lt-suc k, m)
     go false m later =
@@ -83,7 +97,9 @@ some-member (suc k) s h e = go (has s 0) refl (some-member k (s / 2) (half-lt k 
         (suc (higher .0), suc-le-suc (higher .1), has-suc s (higher .0) ∙ higher .2)
 
 -- where a and b overlap, some turnout is in both
-pub overlap-member : (a b : ℕ) → a < 2 ^ 64 → overlaps a b ≡ true → (n : ℕ) × (n < 64) × (has a n ≡ true) × (has b n ≡ true)
+pub overlap-member :
+    (a b : ℕ) → a < 2 ^ 64 → overlaps a b ≡ true →
+    (n : ℕ) × (n < 64) × (has a n ≡ true) × (has b n ≡ true)
 overlap-member a b h e =
     let m = some-member 64 (bitAnd a b) (both-lt a b h) (not-true (isEmpty (bitAnd a b)) e) in
     let both = and-eq-true-iff (has a (m .0)) (has b (m .0)) .0 (sym (has-and a b (m .0)) ∙ m .2) in
@@ -102,12 +118,15 @@ among-below k s n e m = go (ltb n k) refl
 
 -- for all numbers, words or not: a member of a set is a member of any set that the first is within
 pub within-member : (a b n : ℕ) → within a b ≡ true → has a n ≡ true → has b n ≡ true
-within-member a b n e m = has-other a b n m ∙ ap (λ (s : ℕ). has s n) (eqb-true (bitAnd a b) a e) ∙ m
+within-member a b n e m =
+    has-other a b n m ∙ ap (λ (s : ℕ). has s n) (eqb-true (bitAnd a b) a e) ∙ m
 
 -- and no member of a set that does not overlap it
 pub disjoint-member : (a b n : ℕ) → overlaps a b ≡ false → has a n ≡ true → has b n ≡ false
 disjoint-member a b n e m =
-    has-other a b n m ∙ ap (λ (s : ℕ). has s n) (eqb-true (bitAnd a b) 0 (not-false (isEmpty (bitAnd a b)) e)) ∙ has-zero n
+    has-other a b n m
+    ∙ ap (λ (s : ℕ). has s n) (eqb-true (bitAnd a b) 0 (not-false (isEmpty (bitAnd a b)) e))
+    ∙ has-zero n
 
 -- a number is below the power of two of itself, so it has as many digits at most
 below-power : (n : ℕ) → n < 2 ^ n
@@ -126,7 +145,8 @@ same-all a b same =
 -- a set is within another where each member of it is one of the other
 pub within-all : (a b : ℕ) → ((n : ℕ) → has a n ≡ true → has b n ≡ true) → within a b ≡ true
 within-all a b each =
-    eq-eqb (bitAnd a b) a (same-all (bitAnd a b) a (λ n. has-both a b n (has a n) sym (λ m. each n m ∙ sym m)))
+    eq-eqb (bitAnd a b) a
+    (same-all (bitAnd a b) a (λ n. has-both a b n (has a n) sym (λ m. each n m ∙ sym m)))
 
 -- a set is empty where it has no member
 pub empty-all : (s : ℕ) → ((n : ℕ) → has s n ≡ false) → isEmpty s ≡ true

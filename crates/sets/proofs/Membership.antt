@@ -1,9 +1,10 @@
--- Which turnouts are in the intersection, the union and the difference of two sets, in the set of one turnout and in
--- the empty set.
+-- Which turnouts are in the intersection, the union and the difference of two sets, in the set of
+-- one turnout and in the empty set.
 use mathlib.Core.Bool.{Bool, true, false, cond, not, _&&_, _||_, and-true, and-false, or-false}
 use mathlib.Core.Path.{_≡_, refl, sym, ap, ap₂, _∙_}
 use Prim.Native.Nat.{ℕ, zero, suc, _/_, _%_, _^_, _≤_, _<_, zero-le}
-use native.Mathlib.Nat.{le-refl, zero-div, div-one, div-eq-of-lt, mod-lt, mul-mod-left, mul-div-cancel, pow-suc, zero-lt-suc, lt-of-lt-of-le}
+use native.Mathlib.Nat.{le-refl, zero-div, div-one, div-eq-of-lt, mod-lt, mul-mod-left}
+use native.Mathlib.Nat.{mul-div-cancel, pow-suc, zero-lt-suc, lt-of-lt-of-le}
 use native.Mathlib.Numerals.{add-one, one-add}
 use native.Mathlib.Omega.{arith}
 use borrow.Author.Tests.{eqb-true, eqb-false, lt-ltb, le-ltb, ltb-true, ltb-false}
@@ -38,7 +39,8 @@ pub has-suc : (s n : ℕ) → has s (suc n) ≡ has (s / 2) n
 unfolding has
 has-suc s n = ap odd (ap (λ (m : ℕ). s / 2 ^ m) (sym (one-add n)) ∙ sym (shr-shr s 1 n))
 
--- an operation that works on each digit apart, and a test that says what it gives for the four pairs of digits
+-- an operation that works on each digit apart, and a test that says what it gives for the four
+-- pairs of digits
 module _ (op : ℕ → ℕ → ℕ) (test : Bool → Bool → Bool)
     (shr : (a b k : ℕ) → op a b / 2 ^ k ≡ op (a / 2 ^ k) (b / 2 ^ k))
     (low : (a b k : ℕ) → op a b % 2 ^ k ≡ op (a % 2 ^ k) (b % 2 ^ k))
@@ -58,7 +60,8 @@ module _ (op : ℕ → ℕ → ℕ) (test : Bool → Bool → Bool)
   unfolding has
   has-op a b n =
       ap odd (shr a b n) ∙ ap (λ (d : ℕ). eqb d 1) (low (a / 2 ^ n) (b / 2 ^ n) 1)
-      ∙ ap₂ (λ (x y : ℕ). eqb (op x y) 1) (digit-has a n) (digit-has b n) ∙ table (has a n) (has b n)
+      ∙ ap₂ (λ (x y : ℕ). eqb (op x y) 1) (digit-has a n) (digit-has b n)
+      ∙ table (has a n) (has b n)
 
 -- in a & b: in a and in b
 pub has-and : (a b n : ℕ) → has (bitAnd a b) n ≡ (has a n && has b n)
@@ -94,7 +97,8 @@ has-power (suc k) zero =
     ∙ sym (eqb·zero-suc k)
 has-power (suc k) (suc n) =
     has-suc (2 ^ suc k) n
-    ∙ ap (λ (s : ℕ). has s n) (ap (λ (s : ℕ). s / 2) (pow-suc 2 k) ∙ mul-div-cancel (2 ^ k) (zero-lt-suc 1))
+    ∙ ap (λ (s : ℕ). has s n)
+    (ap (λ (s : ℕ). s / 2) (pow-suc 2 k) ∙ mul-div-cancel (2 ^ k) (zero-lt-suc 1))
     ∙ has-power k n ∙ sym (eqb·suc-suc n k)
 
 -- the word of a turnout alone
@@ -126,7 +130,8 @@ unfolding setOf
 has-setOf p zero k limit = has-zero k ∙ sym (ap (λ (b : Bool). b && p k) (le-ltb k 0 zero-le))
 has-setOf p (suc n) k limit =
     has-or (setOf p n) (cond (p n) (single n) 0) k
-    ∙ ap₂ (λ (a b : Bool). a || b) (has-setOf p n k (omega arith)) (here (p n)) ∙ joined (eqb k n) refl
+    ∙ ap₂ (λ (a b : Bool). a || b) (has-setOf p n k (omega arith)) (here (p n))
+    ∙ joined (eqb k n) refl
   where
     here : (b : Bool) → has (cond b (single n) 0) k ≡ (eqb k n && b)
     here true = has-single n k ∙ rw (lt-ltb n 64 limit) (sym (and-true (eqb k n)))

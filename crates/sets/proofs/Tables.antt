@@ -1,4 +1,5 @@
--- The 64 places of a table of records, filled up to a count: one place more, and what stands at each place.
+-- The 64 places of a table of records, filled up to a count: one place more, and what stands at
+-- each place.
 use mathlib.Core.Bool.{Bool, true, false, cond}
 use mathlib.Core.Logic.{_≢_}
 use mathlib.Core.Path.{_≡_, refl, sym, ap, _∙_}
@@ -18,12 +19,14 @@ module _ {A : Type 0} where
   length-values f i zero = refl
   length-values f i (suc k) = ap suc (length-values f (i + 1) k)
 
-  pub getD-values : (f : ℕ → A) (i k j : ℕ) (e : A) → j < k → getD (valuesFrom f i k) j e ≡ f (i + j)
+  pub getD-values :
+      (f : ℕ → A) (i k j : ℕ) (e : A) → j < k → getD (valuesFrom f i k) j e ≡ f (i + j)
   unfolding valuesFrom
   getD-values f i zero j e h = absurd (not-suc-le-zero h)
   getD-values f i (suc k) zero e h = ap f (sym (add-zero i))
   getD-values f i (suc k) (suc j) e h =
-      getD-values f (i + 1) k j e (le-of-suc-le-suc h) ∙ ap f (add-assoc i 1 j ∙ ap (λ (m : ℕ). i + m) (one-add j))
+      getD-values f (i + 1) k j e (le-of-suc-le-suc h)
+      ∙ ap f (add-assoc i 1 j ∙ ap (λ (m : ℕ). i + m) (one-add j))
 
   -- what place i of the table holds
   abbrev placed : (ℕ → A) → ℕ → A → ℕ → A
@@ -33,7 +36,9 @@ module _ {A : Type 0} where
   unfolding places
   length-places f n e = length-values (placed f n e) 0 64
 
-  pub getD-places : (f : ℕ → A) (n : ℕ) (e : A) (i : ℕ) (d : A) → i < 64 → getD (places f n e) i d ≡ placed f n e i
+  pub getD-places :
+      (f : ℕ → A) (n : ℕ) (e : A) (i : ℕ) (d : A) → i < 64 →
+      getD (places f n e) i d ≡ placed f n e i
   unfolding places
   getD-places f n e i d h = getD-values (placed f n e) 0 64 i d h ∙ ap (placed f n e) (zero-add i)
 
@@ -43,7 +48,8 @@ module _ {A : Type 0} where
   places-none f e = refl
 
   -- one place more
-  pub places-next : (f : ℕ → A) (i : ℕ) (e : A) → i < 64 → set (places f i e) i (f i) ≡ places f (i + 1) e
+  pub places-next :
+      (f : ℕ → A) (i : ℕ) (e : A) → i < 64 → set (places f i e) i (f i) ≡ places f (i + 1) e
   places-next f i e h =
       ext-getD e (set (places f i e) i (f i)) (places f (i + 1) e)
       (length-set (places f i e) i (f i) ∙ length-places f i e ∙ sym (length-places f (i + 1) e))
@@ -52,13 +58,18 @@ module _ {A : Type 0} where
       here : getD (set (places f i e) i (f i)) i e ≡ getD (places f (i + 1) e) i e
       here =
           getD-set-same (places f i e) i (f i) e (rw (length-places f i e) h)
-          ∙ sym (getD-places f (i + 1) e i e h ∙ ap (λ (b : Bool). cond b (f i) e) (lt-ltb i (i + 1) (omega arith)))
+          ∙ sym (getD-places f (i + 1) e i e h
+          ∙ ap (λ (b : Bool). cond b (f i) e) (lt-ltb i (i + 1) (omega arith)))
 
       test : (j : ℕ) → j ≢ i → (b : Bool) → ltb j i ≡ b → ltb j i ≡ ltb j (i + 1)
-      test j other true q = let l : j < i = ltb-true j i q in q ∙ sym (lt-ltb j (i + 1) (omega arith))
-      test j other false q = let l : i ≤ j = ltb-false j i q in q ∙ sym (le-ltb j (i + 1) (omega arith))
+      test j other true q =
+          let l : j < i = ltb-true j i q in q ∙ sym (lt-ltb j (i + 1) (omega arith))
+      test j other false q =
+          let l : i ≤ j = ltb-false j i q in q ∙ sym (le-ltb j (i + 1) (omega arith))
 
-      at : (j : ℕ) → j < 64 → (b : Bool) → eqb j i ≡ b → getD (set (places f i e) i (f i)) j e ≡ getD (places f (i + 1) e) j e
+      at :
+          (j : ℕ) → j < 64 → (b : Bool) → eqb j i ≡ b →
+          getD (set (places f i e) i (f i)) j e ≡ getD (places f (i + 1) e) j e
       at j l true q = rw (eqb-true j i q) here
       at j l false q =
           getD-set-other (places f i e) i j (f i) e (eqb-false j i q) ∙ getD-places f i e j e l
@@ -68,16 +79,20 @@ module _ {A : Type 0} where
   -- past the last place nothing is filled
   pub places-limit : (f : ℕ → A) (n : ℕ) (e : A) → places f (min n 64) e ≡ places f n e
   places-limit f n e =
-      ext-getD e (places f (min n 64) e) (places f n e) (length-places f (min n 64) e ∙ sym (length-places f n e))
+      ext-getD e (places f (min n 64) e) (places f n e)
+      (length-places f (min n 64) e ∙ sym (length-places f n e))
       (λ j l. at j (rw (length-places f (min n 64) e) at l))
     where
       test : (j : ℕ) → j < 64 → (b : Bool) → ltb j n ≡ b → ltb j (min n 64) ≡ ltb j n
-      test j l true q = let below : j < n = ltb-true j n q in lt-ltb j (min n 64) (omega arith) ∙ sym q
-      test j l false q = let past : n ≤ j = ltb-false j n q in le-ltb j (min n 64) (omega arith) ∙ sym q
+      test j l true q =
+          let below : j < n = ltb-true j n q in lt-ltb j (min n 64) (omega arith) ∙ sym q
+      test j l false q =
+          let past : n ≤ j = ltb-false j n q in le-ltb j (min n 64) (omega arith) ∙ sym q
 
       at : (j : ℕ) → j < 64 → getD (places f (min n 64) e) j e ≡ getD (places f n e) j e
       at j l =
-          getD-places f (min n 64) e j e l ∙ ap (λ (b : Bool). cond b (f j) e) (test j l (ltb j n) refl)
+          getD-places f (min n 64) e j e l
+          ∙ ap (λ (b : Bool). cond b (f j) e) (test j l (ltb j n) refl)
           ∙ sym (getD-places f n e j e l)
 
   -- from the count on every place holds e
@@ -86,4 +101,5 @@ module _ {A : Type 0} where
     where
       go : (b : Bool) → ltb i 64 ≡ b → getD (places f n e) i e ≡ e
       go true q = getD-places f n e i e (ltb-true i 64 q) ∙ rw (le-ltb i n h)
-      go false q = List·getD-eq-default (places f n e) e (rw (length-places f n e) (ltb-false i 64 q))
+      go false q =
+          List·getD-eq-default (places f n e) e (rw (length-places f n e) (ltb-false i 64 q))

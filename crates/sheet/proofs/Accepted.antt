@@ -1,4 +1,5 @@
--- The station of an accepted sheet passes the reader's tests, has all that document 01 asks, and is accepted as it is.
+-- The station of an accepted sheet passes the reader's tests, has all that document 01 asks, and is
+-- accepted as it is.
 use mathlib.Core.Bool.{Bool, true, false, cond, not, _||_}
 use mathlib.Core.Logic.{_≢_, inl, inr}
 use mathlib.Core.Path.{_≡_, refl, ap, _∙_}
@@ -11,11 +12,14 @@ use Rattle.sets.specs.Range.{firstFrom}
 use Rattle.sets.proofs.Ranges.{none-below, not-found}
 use Rattle.station.specs.declared.Station.{Station}
 use Rattle.sheet.specs.declared.Sheet.{Sheet}
-use Rattle.station.specs.Station.{emptyTurnout, emptyRoute, turnoutAt, turnoutCount, routeCount, zoneCount}
-use Rattle.layout.specs.Layout.{countP, countR, countsKept, headerNumber, turnoutIn, turnoutPlace, routeIn, routePlace, stationIn}
+use Rattle.station.specs.Station.{emptyTurnout, emptyRoute, turnoutAt, turnoutCount, routeCount}
+use Rattle.station.specs.Station.{zoneCount}
+use Rattle.layout.specs.Layout.{countP, countR, countsKept, headerNumber, turnoutIn, turnoutPlace}
+use Rattle.layout.specs.Layout.{routeIn, routePlace, stationIn}
 use Rattle.sheet.specs.Accepted.{GoodCounts, Crossover, GoodTurnout, Passed, Accepted}
 use Rattle.sheet.specs.Partners.{partnerKept, goodTurnout, badTurnout}
-use Rattle.sheet.specs.Sheet.{goodRoute, badRoute, refusedSheet, acceptedSheet, routesJudged, judged, readSheet}
+use Rattle.sheet.specs.Sheet.{goodRoute, badRoute, refusedSheet, acceptedSheet, routesJudged}
+use Rattle.sheet.specs.Sheet.{judged, readSheet}
 use Rattle.layout.proofs.Header.{no-fault, in-range}
 use Rattle.layout.proofs.Joined.{three, five, either}
 use Rattle.sets.proofs.Tables.{places-past}
@@ -24,13 +28,18 @@ use Rattle.sheet.proofs.AcceptedRoute.{good-route}
 -- a station whose counts are in range, so that the tests read them as they stand
 module _ (st : Station) (counts : GoodCounts st) where
   crossover :
-      (n : ℕ) → partnerKept (turnoutCount st) n (turnoutAt st n) (turnoutAt st (turnoutAt st n .partner)) ≡ true → Crossover st n
+      (n : ℕ)
+      → partnerKept (turnoutCount st) n (turnoutAt st n) (turnoutAt st (turnoutAt st n .partner))
+      ≡ true → Crossover st n
   crossover n h =
       let t = turnoutAt st n in
       let o = turnoutAt st (t .partner) in
       let below = ltb (t .partner) (turnoutCount st) in
       let itself = eqb (t .partner) n in
-      let kept = five below (not itself) (eqb (o .partner) n) (eqb (o .zone) (t .zone)) (eqb (o .drive) (t .drive)) h in
+      let back = eqb (o .partner) n in
+      let same-zone = eqb (o .zone) (t .zone) in
+      let same-drive = eqb (o .drive) (t .drive) in
+      let kept = five below (not itself) back same-zone same-drive h in
       record {
         below = omega (arith, ltb-true (t .partner) (turnoutCount st) (kept .0));
         other = eqb-false (t .partner) n (not-true itself (kept .1));
@@ -49,11 +58,15 @@ module _ (st : Station) (counts : GoodCounts st) where
       record {
         zone = omega (arith, ltb-true (t .zone) (zoneCount st) (kept .0));
         drive = leb-true (t .drive) 1 (kept .1);
-        partner = elim (either alone paired (kept .2)) [ inl e ↦ inl (eqb-true (t .partner) 255 e) | inr e ↦ inr (crossover n e) ];
+        partner = elim (either alone paired (kept .2)) [
+          | inl e ↦ inl (eqb-true (t .partner) 255 e)
+          | inr e ↦ inr (crossover n e)
+        ];
       }
 
 -- counts that pass the header's test are in range
-pub counts-in-range : (st : Station) → countsKept (st .turnouts) (st .routes) (st .zones) ≡ true → GoodCounts st
+pub counts-in-range :
+    (st : Station) → countsKept (st .turnouts) (st .routes) (st .zones) ≡ true → GoodCounts st
 counts-in-range st h =
     let kept = in-range (st .turnouts) (st .routes) (st .zones) h in
     record {
@@ -70,13 +83,16 @@ unfolding stationIn
 good-counts s h = counts-in-range (stationIn s) (no-fault s h .2)
 
 -- where no bad one is found below k, each is good
-none-bad : (good : ℕ → Bool) (k : ℕ) → ltb (firstFrom (λ n. not (good n)) 0 k) k ≡ false → (n : ℕ) → n < k → good n ≡ true
+none-bad :
+    (good : ℕ → Bool) (k : ℕ) → ltb (firstFrom (λ n. not (good n)) 0 k) k ≡ false → (n : ℕ) →
+    n < k → good n ≡ true
 none-bad good k h n l =
     let past = ltb-false (firstFrom (λ n. not (good n)) 0 k) k h in
     not-false (good n) (none-below (λ n. not (good n)) k past n l)
 
 -- where the answer is no refusal, the test for one fails
-unrefused : (b : Bool) (r x : Sheet) → r .code ≢ 0 → cond b r x .code ≡ 0 → (b ≡ false) × (cond b r x ≡ x)
+unrefused :
+    (b : Bool) (r x : Sheet) → r .code ≢ 0 → cond b r x .code ≡ 0 → (b ≡ false) × (cond b r x ≡ x)
 unrefused true r x refusal h = absurd (refusal h)
 unrefused false r x refusal h = (refl, refl)
 
@@ -92,8 +108,10 @@ passed st h =
     let bad-route = ltb (badRoute st) (routeCount st) in
     let refused = refusedSheet 6 (badRoute st) in
     let later = cond bad-route refused (acceptedSheet st) in
-    let turnouts = unrefused bad-turnout (refusedSheet 5 (badTurnout st)) later (λ e. omega arith) h in
-    let routes = unrefused bad-route refused (acceptedSheet st) (λ e. omega arith) (rw (turnouts .1) at h) in (
+    let turnouts =
+    unrefused bad-turnout (refusedSheet 5 (badTurnout st)) later (λ e. omega arith) h in
+    let routes =
+    unrefused bad-route refused (acceptedSheet st) (λ e. omega arith) (rw (turnouts .1) at h) in (
       turnouts .1 ∙ routes .1,
       none-bad (goodTurnout st) (turnoutCount st) (turnouts .0),
       none-bad (goodRoute st) (routeCount st) (routes .0),
@@ -116,8 +134,10 @@ module _ (s : List ℕ) (code-zero : readSheet s .code ≡ 0) where
   headed = go (eqb (headerNumber s) 0) refl code-zero
     where
       go :
-          (b : Bool) → eqb (headerNumber s) 0 ≡ b → cond b (judged (stationIn s)) (refusedSheet (headerNumber s) 0) .code ≡ 0 →
-          (headerNumber s ≡ 0) × (cond b (judged (stationIn s)) (refusedSheet (headerNumber s) 0) ≡ judged (stationIn s))
+          (b : Bool) → eqb (headerNumber s) 0 ≡ b
+          → cond b (judged (stationIn s)) (refusedSheet (headerNumber s) 0) .code ≡ 0 →
+          (headerNumber s ≡ 0)
+          × (cond b (judged (stationIn s)) (refusedSheet (headerNumber s) 0) ≡ judged (stationIn s))
       go true e h = (eqb-true (headerNumber s) 0 e, refl)
       go false e h = absurd (eqb-false (headerNumber s) 0 e h)
 

@@ -20,13 +20,15 @@ use Rattle.layout.proofs.Joined.{three, six, asked}
 module _ (st : Station) where
   -- what the tests of a route say of each turnout
   good-members :
-      (x : Route) → allFrom (λ t. memberKept x t (turnoutAt st t) (tied st t)) 0 (turnoutCount st) ≡ true →
+      (x : Route)
+      → allFrom (λ t. memberKept x t (turnoutAt st t) (tied st t)) 0 (turnoutCount st) ≡ true →
       (t : ℕ) → t < turnoutCount st →
       (has (namedBy x) t ≡ true → zoneOf st t ≡ x .zone)
       × (has (x .flank) t ≡ true → within (tied st t) (x .flank) ≡ true)
       × (whole (bitAnd (tied st t) (namedBy x)) (x .reverse) ≡ true)
   good-members x h t l =
-      let here = all-below (λ t. memberKept x t (turnoutAt st t) (tied st t)) (turnoutCount st) h t l in
+      let here =
+      all-below (λ t. memberKept x t (turnoutAt st t) (tied st t)) (turnoutCount st) h t l in
       let named = has (namedBy x) t in
       let in-zone = eqb (zoneOf st t) (x .zone) in
       let flank = has (x .flank) t in
@@ -44,15 +46,19 @@ module _ (st : Station) where
   good-route limit r h =
       let x = routeAt st r in
       let p = turnoutCount st in
-      let parts = and-eq-true-iff (setsKept p x) (allFrom (λ t. memberKept x t (turnoutAt st t) (tied st t)) 0 p) .0 h in
+      let all = allFrom (λ t. memberKept x t (turnoutAt st t) (tied st t)) 0 p in
+      let parts = and-eq-true-iff (setsKept p x) all .0 h in
       let over-flank = overlaps (x .over) (x .flank) in
       let over-exits = overlaps (x .over) (x .exits) in
       let flank-exits = overlaps (x .flank) (x .exits) in
       let among = within (namedBy x) (allTurnouts p) in
       let empty = isEmpty (x .over) in
       let reverse = within (x .reverse) (namedBy x) in
-      let sets = six (not over-flank) (not over-exits) (not flank-exits) among (not empty) reverse (parts .0) in
-      let below : (t : ℕ) → has (namedBy x) t ≡ true → t < p = λ t. among-below p (namedBy x) t (sets .3) in
+      let sets =
+      six (not over-flank) (not over-exits) (not flank-exits) among (not empty) reverse
+      (parts .0) in
+      let below : (t : ℕ) → has (namedBy x) t ≡ true → t < p =
+      λ t. among-below p (namedBy x) t (sets .3) in
       let kept = good-members x (parts .1) in
       record {
         over-flank = not-true over-flank (sets .0);

@@ -1,4 +1,5 @@
--- What an accepted sheet guarantees of its station: document 01, 'Station sheet', sentence by sentence.
+-- What an accepted sheet guarantees of its station: document 01, 'Station sheet', sentence by
+-- sentence.
 use mathlib.Core.Bool.{true, false}
 use mathlib.Core.Logic.{_≢_, _⊎_}
 use mathlib.Core.Path.{_≡_}
@@ -6,7 +7,8 @@ use Prim.Native.Nat.{ℕ, _≤_, _<_}
 use lib.Bits.{bitAnd}
 use Rattle.sets.specs.Sets.{has, isEmpty, overlaps, within}
 use Rattle.station.specs.declared.Station.{Station}
-use Rattle.station.specs.Station.{emptyTurnout, emptyRoute, turnoutAt, routeAt, zoneOf, driveOf, tied, namedBy, whole}
+use Rattle.station.specs.Station.{emptyTurnout, emptyRoute, turnoutAt, routeAt, zoneOf, driveOf}
+use Rattle.station.specs.Station.{tied, namedBy, whole}
 use Rattle.sheet.specs.Partners.{goodTurnout}
 use Rattle.sheet.specs.Sheet.{goodRoute}
 
@@ -49,19 +51,23 @@ pub record GoodRoute (st : Station) (r : ℕ) : Type 0 where
   -- "their union is what the route names. It lies among the P turnouts, ..
   pub named-below : (t : ℕ) → has (namedBy (routeAt st r)) t ≡ true → t < st .turnouts
   -- .. in the route's zone"
-  pub named-zone : (t : ℕ) → has (namedBy (routeAt st r)) t ≡ true → zoneOf st t ≡ routeAt st r .zone
+  pub named-zone :
+      (t : ℕ) → has (namedBy (routeAt st r)) t ≡ true → zoneOf st t ≡ routeAt st r .zone
   -- "run over is not empty"
   pub runs-over : isEmpty (routeAt st r .over) ≡ false
   -- "reverse lies within the union"
   pub reverse-named : within (routeAt st r .reverse) (namedBy (routeAt st r)) ≡ true
   -- "A flank turnout's partner is flank too (Art. 3.24)."
   pub flank-whole :
-      (t : ℕ) → t < st .turnouts → has (routeAt st r .flank) t ≡ true → within (tied st t) (routeAt st r .flank) ≡ true
+      (t : ℕ) → t < st .turnouts → has (routeAt st r .flank) t ≡ true
+      → within (tied st t) (routeAt st r .flank) ≡ true
   -- "Both ends of a crossover, if named, have the same position."
   pub one-position :
-      (t : ℕ) → t < st .turnouts → whole (bitAnd (tied st t) (namedBy (routeAt st r))) (routeAt st r .reverse) ≡ true
+      (t : ℕ) → t < st .turnouts
+      → whole (bitAnd (tied st t) (namedBy (routeAt st r))) (routeAt st r .reverse) ≡ true
 
--- what the reader's tests find of a station that it gives: counts in range, no bad record, nothing past the counts
+-- what the reader's tests find of a station that it gives: counts in range, no bad record, nothing
+-- past the counts
 pub record Passed (st : Station) : Type 0 where
   pub counts : GoodCounts st
   pub turnout : (n : ℕ) → n < st .turnouts → goodTurnout st n ≡ true

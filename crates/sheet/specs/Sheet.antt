@@ -11,7 +11,8 @@ use Rattle.station.specs.declared.Route.{Route}
 use Rattle.station.specs.declared.Station.{Station}
 use Rattle.sheet.specs.declared.Finding.{Finding}
 use Rattle.sheet.specs.declared.Sheet.{Sheet}
-use Rattle.station.specs.Station.{emptyStation, turnoutAt, routeAt, turnoutCount, routeCount, tied, namedBy, whole}
+use Rattle.station.specs.Station.{emptyStation, turnoutAt, routeAt, turnoutCount, routeCount, tied}
+use Rattle.station.specs.Station.{namedBy, whole}
 use Rattle.sheet.specs.Partners.{badTurnout}
 use Rattle.layout.specs.Layout.{headerNumber, stationIn}
 
@@ -19,17 +20,20 @@ use Rattle.layout.specs.Layout.{headerNumber, stationIn}
 abbrev pub allTurnouts : ℕ → ℕ
 allTurnouts p = 2 ^ p - 1
 
--- "The first three are pairwise disjoint; their union .. lies among the P turnouts ..; run over is not empty; reverse lies
--- within the union."
+-- "The first three are pairwise disjoint; their union .. lies among the P turnouts ..; run over is
+-- not empty; reverse lies within the union."
 abbrev pub setsKept : ℕ → Route → Bool
 setsKept p r =
-    not (overlaps (r .over) (r .flank)) && not (overlaps (r .over) (r .exits)) && not (overlaps (r .flank) (r .exits))
+    not (overlaps (r .over) (r .flank))
+    && not (overlaps (r .over) (r .exits))
+    && not (overlaps (r .flank) (r .exits))
     && within (namedBy r) (allTurnouts p)
     && not (isEmpty (r .over))
     && within (r .reverse) (namedBy r)
 
--- What a route asks of turnout n, its record t and the group tied to it: a named turnout is in the route's zone; "A flank
--- turnout's partner is flank too (Art. 3.24)"; "Both ends of a crossover, if named, have the same position".
+-- What a route asks of turnout n, its record t and the group tied to it: a named turnout is in the
+-- route's zone; "A flank turnout's partner is flank too (Art. 3.24)"; "Both ends of a crossover, if
+-- named, have the same position".
 abbrev pub memberKept : Route → ℕ → Turnout → ℕ → Bool
 memberKept r n t group =
     (not (has (namedBy r) n) || eqb (t .zone) (r .zone))
@@ -39,7 +43,8 @@ memberKept r n t group =
 unfoldable pub goodRoute : Station → ℕ → Bool
 goodRoute st n =
     let r = routeAt st n in
-    setsKept (turnoutCount st) r && allFrom (λ t. memberKept r t (turnoutAt st t) (tied st t)) 0 (turnoutCount st)
+    setsKept (turnoutCount st) r
+    && allFrom (λ t. memberKept r t (turnoutAt st t) (tied st t)) 0 (turnoutCount st)
 
 -- "the first bad record ends the reading": its index, or the count where all are good
 unfoldable pub badRoute : Station → ℕ
@@ -52,13 +57,17 @@ refusedSheet number place = record { code = number; index = place; station = emp
 abbrev pub acceptedSheet : Station → Sheet
 acceptedSheet st = record { code = 0; index = 0; station = st }
 
--- routes: the station, or the number and index of its first bad route; asked where its turnouts are good
+-- routes: the station, or the number and index of its first bad route; asked where its turnouts are
+-- good
 unfoldable pub routesJudged : Station → Sheet
-routesJudged st = cond (ltb (badRoute st) (routeCount st)) (refusedSheet 6 (badRoute st)) (acceptedSheet st)
+routesJudged st =
+    cond (ltb (badRoute st) (routeCount st)) (refusedSheet 6 (badRoute st)) (acceptedSheet st)
 
--- ".. turnouts, routes": the station, or the number and index of its first bad record; asked where its counts are in range
+-- ".. turnouts, routes": the station, or the number and index of its first bad record; asked where
+-- its counts are in range
 unfoldable pub judged : Station → Sheet
-judged st = cond (ltb (badTurnout st) (turnoutCount st)) (refusedSheet 5 (badTurnout st)) (routesJudged st)
+judged st =
+    cond (ltb (badTurnout st) (turnoutCount st)) (refusedSheet 5 (badTurnout st)) (routesJudged st)
 
 -- the number and the index of an answer
 abbrev pub findingOf : Sheet → Finding

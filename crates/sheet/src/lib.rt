@@ -1,5 +1,6 @@
-// The reader of station sheets (document 01, 'Station sheet'). The rules of judging and reading are in specs/Sheet.antt, those of the
-// bytes in the crate `layout`. proofs/Accepted.antt has what an accepted sheet guarantees of its station.
+// The reader of station sheets (document 01, 'Station sheet'). The rules of judging and reading are in
+// specs/Sheet.antt, those of the bytes in the crate `layout`. proofs/Accepted.antt has what an accepted sheet
+// guarantees of its station.
 ghost use mathlib.Core.Path.{_≡_};
 ghost use Rattle.sheet.specs.Sheet.{readSheet};
 
@@ -11,15 +12,16 @@ pub const BAD_TURNOUT: u8 = 5;
 
 pub const BAD_ROUTE: u8 = 6;
 
-// What reading a sheet gives: 0 and the station; or the number that refuses it, the index of the record for 5 and 6 (else
-// 0), and the station that is 0 throughout.
+// What reading a sheet gives: 0 and the station; or the number that refuses it, the index of the record for 5 and 6
+// (else 0), and the station that is 0 throughout.
 pub struct Sheet {
     pub station: station::Station,
     pub code: u8,
     pub index: u8,
 }
 
-// What judging a station finds: 0, or the number and the index of its first bad record. Smaller than a Sheet, which holds the station.
+// What judging a station finds: 0, or the number and the index of its first bad record. Smaller than a Sheet, which
+// holds the station.
 pub struct Finding {
     pub code: u8,
     pub index: u8,

@@ -29,8 +29,8 @@ unfoldable pub recordsFrom : (ℕ → List ℕ) → ℕ → ℕ → List ℕ
 recordsFrom f i zero = []
 recordsFrom f i (suc k) = f i ++ recordsFrom f (i + 1) k
 
--- "Then P turnout records". Of a count over the 64 places, which no sheet has, those of the 64 places, so
--- that every station has its bytes.
+-- "Then P turnout records". Of a count over the 64 places, which no sheet has, those of the 64
+-- places, so that every station has its bytes.
 abbrev pub turnoutRecords : ℕ → List Turnout → List ℕ
 turnoutRecords p ts = recordsFrom (λ n. turnoutBytes (getD ts n emptyTurnout)) 0 (min p 64)
 

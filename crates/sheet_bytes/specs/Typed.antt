@@ -1,5 +1,5 @@
--- Stations of machine types, as every station is that code holds: two tables of 64 places, and numbers of
--- their widths.
+-- Stations of machine types, as every station is that code holds: two tables of 64 places, and
+-- numbers of their widths.
 use mathlib.Core.Path.{_≡_}
 use Prim.Native.Nat.{ℕ, _^_, _<_}
 use lib.ListN.{length}

@@ -1,10 +1,17 @@
-// A station as the bytes of a sheet, stored into a buffer. The bytes are in specs/SheetBytes.antt; they are the inverse of
-// the station that the crate `layout` finds in bytes (proofs/Inverse.antt). Storing takes any station and any buffer; the
-// crate `sheet_writer` refuses.
+// A station as the bytes of a sheet, stored into a buffer. The bytes are in specs/SheetBytes.antt; they are the
+// inverse of the station that the crate `layout` finds in bytes (proofs/Inverse.antt). Storing takes any station and
+// any buffer; the crate `sheet_writer` refuses.
 ghost use mathlib.Core.Path.{_≡_};
 ghost use Prim.Native.Nat.{_<_, _+_, _*_, min};
 ghost use lib.Seq.{sets};
-ghost use Rattle.sheet_bytes.specs.SheetBytes.{headerBytes, turnoutBytes, routeBytes, turnoutRecords, routeRecords, sheetBytes};
+ghost use Rattle.sheet_bytes.specs.SheetBytes.{
+  headerBytes,
+  turnoutBytes,
+  routeBytes,
+  turnoutRecords,
+  routeRecords,
+  sheetBytes,
+};
 use station::Route;
 use station::Station;
 use station::Turnout;

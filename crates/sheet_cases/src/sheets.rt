@@ -20,7 +20,8 @@ fn put_header(s: &mut [u8], p: u8, r: u8, z: u8) {
     put_bytes(s, 0, &[b'S', b'P', b'T', 0, 1, p, r, z]);
 }
 
-// Stores a route whose sets have turnouts below 8 only: its zone, run over, flank, exit zone, reverse. The bytes between are 0.
+// Stores a route whose sets have turnouts below 8 only: its zone, run over, flank, exit zone, reverse. The bytes
+// between are 0.
 fn put_route(s: &mut [u8], at: u8, zone: u8, sets: [u8; 4]) {
     let at = at as usize;
     put(s, at, zone);
@@ -30,17 +31,17 @@ fn put_route(s: &mut [u8], at: u8, zone: u8, sets: [u8; 4]) {
     put(s, at + 32, sets[3]);
 }
 
-// Stores station K of document 01 in 50 bytes that are 0: 0 and 1 an electric crossover, 2 alone by hand; the route runs
-// over {0}, flank {2}, exit zone and reverse empty.
+// Stores station K of document 01 in 50 bytes that are 0: 0 and 1 an electric crossover, 2 alone by hand; the route
+// runs over {0}, flank {2}, exit zone and reverse empty.
 fn put_k(s: &mut [u8]) {
     put_header(s, 3, 1, 1);
     put_bytes(s, 8, &[0, 1, 0, 0, 0, 0, 0, 255, 1]);
     put_route(s, 17, 0, [1, 4, 0, 0]);
 }
 
-// Stores a larger sheet in 131 bytes that are 0: P = 8, R = 3, Z = 2. Turnouts 1 and 2, 4 and 5, 6 and 7 are crossovers, the
-// last one by hand; 0 stands alone, and so does 3, by hand. Turnouts 0 to 2 are in zone 0, the others in zone 1. The routes:
-// 0: zone 0, runs over {0}, flank {1, 2}, exit zone empty, reverse {0};
+// Stores a larger sheet in 131 bytes that are 0: P = 8, R = 3, Z = 2. Turnouts 1 and 2, 4 and 5, 6 and 7 are
+// crossovers, the last one by hand; 0 stands alone, and so does 3, by hand. Turnouts 0 to 2 are in zone 0, the others
+// in zone 1. The routes: 0: zone 0, runs over {0}, flank {1, 2}, exit zone empty, reverse {0};
 // 1: zone 1, runs over {4, 6}, flank empty, exit zone {3}, reverse {4};
 // 2: zone 1, runs over {3}, flank {4, 5}, exit zone {6}, reverse {3, 6}.
 fn put_large(s: &mut [u8]) {
@@ -108,7 +109,8 @@ fn put_largest(s: &mut [u8], zones: u8) {
     }
 }
 
-// Stores the sheet that a base number names: 1 station K, 2 the larger sheet, 3 the largest with 8 zones, 4 the largest with 1.
+// Stores the sheet that a base number names: 1 station K, 2 the larger sheet, 3 the largest with 8 zones, 4 the
+// largest with 1.
 pub fn put_base(s: &mut [u8], base: u16) {
     match base {
         1 => put_k(s),

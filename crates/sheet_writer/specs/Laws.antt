@@ -33,8 +33,8 @@ pub record WriterLaws (st : Station) (buffer : List ℕ) (w : SheetWritten) : Ty
   -- "Bytes past the sheet's length are untouched."
   pub past-untouched : w .code ≡ 0 → drop (lengthOf st) (w .bytes) ≡ drop (lengthOf st) buffer
 
--- what document 02 asks of the answer w of writing the station of an accepted sheet s into a buffer:
--- "a sheet that was read and written comes out byte for byte"
+-- what document 02 asks of the answer w of writing the station of an accepted sheet s into a
+-- buffer: "a sheet that was read and written comes out byte for byte"
 pub record SheetLaws (s buffer : List ℕ) (w : SheetWritten) : Type 0 where
   -- as the whole of a buffer of its length ..
   pub byte-for-byte : length buffer ≡ length s → w ≡ record { code = 0; bytes = s }
@@ -60,8 +60,8 @@ pub record CopyLaws (s buffer : List ℕ) : Type 0 where
       → copiedSheet s buffer ≡ copyAnswer 0 (sets buffer 0 s)
   pub never-seven : copiedSheet s buffer .found .code ≢ 7
 
--- The claims: of every station that code can hold, of every accepted sheet, of all bytes; and of every
--- buffer.
+-- The claims: of every station that code can hold, of every accepted sheet, of all bytes; and of
+-- every buffer.
 abbrev pub EachWritten : Type 0
 EachWritten =
     (st : Station) → TypedStation st → (buffer : List ℕ)

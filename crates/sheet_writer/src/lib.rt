@@ -1,6 +1,6 @@
-// The writer of station sheets (document 02, M-100). The rules are in specs/Writer.antt, the bytes of a station in the
-// crate `sheet_bytes`. specs/Laws.antt says what follows: what is written reads as the station, and a sheet that is read
-// and written is the same bytes.
+// The writer of station sheets (document 02, M-100). The rules are in specs/Writer.antt, the bytes of a station in
+// the crate `sheet_bytes`. specs/Laws.antt says what follows: what is written reads as the station, and a sheet that
+// is read and written is the same bytes.
 ghost use mathlib.Core.Path.{_≡_};
 ghost use Rattle.sheet_writer.specs.Writer.{described, writtenSheet, copiedSheet};
 use sheet::Finding;

@@ -1,7 +1,8 @@
-// Asks `signals::judge` one question for each sentence of document 01's verdicts and for each flag that matters there, and
-// prints a line for each: line, signal, flags, code, verdict. The file `stdout` has what document 01 says.
+// Asks `signals::judge` one question for each sentence of document 01's verdicts and for each flag that matters
+// there, and prints a line for each: line, signal, flags, code, verdict. The file `stdout` has what document 01 says.
 
-// The questions: line, signal, flags. Flags: 1 held, 2 day, 4 SSC fitted, 8 ensured, 16 lights touched, 32 cannot light wrongly.
+// The questions: line, signal, flags. Flags: 1 held, 2 day, 4 SSC fitted, 8 ensured, 16 lights touched, 32 cannot
+// light wrongly.
 const CASES: [[u8; 3]; 79] = [
     // "Line 1 signal 5: 6", before all else: held, by day, with lights touched
     [1, 5, 0],

@@ -1,8 +1,11 @@
--- What the verdict call answers, in document 01's numbers: the code, 0 or 33, and the verdict, 0 when refused.
+-- What the verdict call answers, in document 01's numbers: the code, 0 or 33, and the verdict, 0
+-- when refused.
 use mathlib.Core.Bool.{cond}
 use Prim.Native.Nat.{ℕ}
 use Rattle.signals.specs.declared.Verdict.{Verdict}
-use Rattle.signals.specs.declared.Verdict.the-variants.{AtDanger, Dark, DarkBlockOut, AnyAspectBlockOut, ClosureOnly, NoSuchSignal}
+use Rattle.signals.specs.declared.Verdict.the-variants.{AtDanger, Dark, DarkBlockOut}
+use Rattle.signals.specs.declared.Verdict.the-variants.{AnyAspectBlockOut, ClosureOnly}
+use Rattle.signals.specs.declared.Verdict.the-variants.{NoSuchSignal}
 use Rattle.signals.specs.declared.Ruling.{Ruling}
 use Rattle.signals.specs.declared.Ruling.the-variants.{Given, OutOfRange}
 use Rattle.signals.specs.Signals.{verdictRule, inRange}

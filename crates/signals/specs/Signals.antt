@@ -1,10 +1,12 @@
--- Document 01, 'Works on signals' (Art. 3.5, 3.6, 3.13): which works on a signal are allowed, as a rule on line, signal and flags.
+-- Document 01, 'Works on signals' (Art. 3.5, 3.6, 3.13): which works on a signal are allowed, as a
+-- rule on line, signal and flags.
 use mathlib.Core.Bool.{Bool, cond, not, _&&_, _||_}
 use Prim.Native.Nat.{ℕ, _+_, _-_, _*_, _/_, _%_}
 use lib.Dec.{eqb, leb}
 
--- "Flags: 1 can be held at danger, 2 day, 4 SSC (driver support) fitted, 8 its danger message ensured, 16 auxiliary lights
--- touched, 32 those cannot light wrongly": the flag of the value v is set
+-- "Flags: 1 can be held at danger, 2 day, 4 SSC (driver support) fitted, 8 its danger message
+-- ensured, 16 auxiliary lights touched, 32 those cannot light wrongly": the flag of the value v is
+-- set
 unfoldable pub flag : ℕ → ℕ → Bool
 flag v flags = eqb (flags / v % 2) 1
 
@@ -32,7 +34,8 @@ unfoldable pub lightsCannotLightWrongly : ℕ → Bool
 unfolding flag
 lightsCannotLightWrongly = flag 32
 
--- "by day, with SSC absent or ensured, dark; 3 on line 1 for signals 0, 1, 4, otherwise 2; failing that 5"
+-- "by day, with SSC absent or ensured, dark; 3 on line 1 for signals 0, 1, 4, otherwise 2; failing
+-- that 5"
 unfoldable pub darkVerdict : ℕ → ℕ → ℕ → ℕ
 unfolding byDay sscFitted sscEnsured
 darkVerdict line signal flags =
@@ -40,9 +43,10 @@ darkVerdict line signal flags =
     (cond (eqb line 1 && (eqb signal 0 || eqb signal 1 || eqb signal 4)) 3 2)
     5
 
--- "Verdicts: 1 M.45 at danger; 2 M.45 dark; 3 dark, block out; 4 any aspect, block out; 5 closure only; 6 no such signal.
--- Line 1 signal 5: 6. Else lights touched and (line 3, or not flag 32): 5. Else held: 1. Else line 3: 5. Line 1, and line 2
--- signals 2 and 3: by day, .. Line 2 signal 5: 4; others 5."
+-- "Verdicts: 1 M.45 at danger; 2 M.45 dark; 3 dark, block out; 4 any aspect, block out; 5 closure
+-- only; 6 no such signal. Line 1 signal 5: 6. Else lights touched and (line 3, or not flag 32): 5.
+-- Else held: 1. Else line 3: 5. Line 1, and line 2 signals 2 and 3: by day, .. Line 2 signal 5: 4;
+-- others 5."
 unfoldable pub verdictRule : ℕ → ℕ → ℕ → ℕ
 unfolding darkVerdict canBeHeld lightsTouched lightsCannotLightWrongly
 verdictRule line signal flags =
@@ -50,7 +54,8 @@ verdictRule line signal flags =
     (cond (lightsTouched flags && (eqb line 3 || not (lightsCannotLightWrongly flags))) 5
     (cond (canBeHeld flags) 1
     (cond (eqb line 3) 5
-    (cond (eqb line 1 || eqb line 2 && (eqb signal 2 || eqb signal 3)) (darkVerdict line signal flags)
+    (cond (eqb line 1 || eqb line 2 && (eqb signal 2 || eqb signal 3))
+    (darkVerdict line signal flags)
     (cond (eqb line 2 && eqb signal 5) 4 5)))))
 
 -- "33: line, signal or flags (above 63) out of range": lines are 1 to 3, signals 0 to 5

@@ -8,7 +8,8 @@ use borrow.Author.Tests.{ltb-true, lt-ltb}
 use Rattle.station.specs.declared.Station.{Station}
 use Rattle.station.specs.Station.{theRoute, routeAt, routeBy, routeIndex, routeCount}
 
-pub route-by-record : (st : Station) (n : ℕ) → routeBy (st .routes) n (routeAt st (routeIndex n)) ≡ theRoute st n
+pub route-by-record :
+    (st : Station) (n : ℕ) → routeBy (st .routes) n (routeAt st (routeIndex n)) ≡ theRoute st n
 unfolding theRoute
 route-by-record st n = go (ltb n (routeCount st)) refl
   where

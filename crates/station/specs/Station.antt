@@ -1,5 +1,6 @@
--- What a station says of its turnouts, routes and zones, for every station value. Document 01, 'Conditions of acceptance':
--- "a count over its limit is read as the limit, a partner not below P as none, a stored route not below R names nothing".
+-- What a station says of its turnouts, routes and zones, for every station value. Document 01,
+-- 'Conditions of acceptance': "a count over its limit is read as the limit, a partner not below P
+-- as none, a stored route not below R names nothing".
 use mathlib.Core.Bool.{Bool, cond, not, _||_}
 use mathlib.Core.List.{List}
 use Prim.Native.Nat.{ℕ, min}
@@ -77,8 +78,9 @@ namedBy r = union (union (r .over) (r .flank)) (r .exits)
 unfoldable pub theRoute : Station → ℕ → Route
 theRoute st n = cond (ltb n (routeCount st)) (routeAt st n) emptyRoute
 
--- the same for whoever keeps the 64 records himself: the index of the record to look at, 0 for a number from 64 on, and the route by that
--- record, of a station whose count of routes is given. The law `route-by-record` says that this is the route as it counts.
+-- the same for whoever keeps the 64 records himself: the index of the record to look at, 0 for a
+-- number from 64 on, and the route by that record, of a station whose count of routes is given. The
+-- law `route-by-record` says that this is the route as it counts.
 abbrev pub routeIndex : ℕ → ℕ
 routeIndex n = cond (ltb n 64) n 0
 

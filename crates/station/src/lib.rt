@@ -1,5 +1,6 @@
 // Stations (document 01, 'Station sheet'): what a station says of its turnouts, routes and zones. The rules are in
-// specs/Station.antt. Every function takes any station value, also one that no sheet gave. The crate `sheet` reads a station.
+// specs/Station.antt. Every function takes any station value, also one that no sheet gave. The crate `sheet` reads a
+// station.
 ghost use mathlib.Core.Path.{_≡_};
 ghost use Prim.Native.Nat.{_<_};
 ghost use Rattle.station.specs.Station.{

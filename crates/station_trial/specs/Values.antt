@@ -1,6 +1,6 @@
--- A station from numbers in bytes: its records as they stand in the 2,312 bytes of a sheet, and then
--- its three counts, which need not be those of the sheet. Where the sheet's own counts (its bytes 5 and
--- 6) are 64, every station can be given.
+-- A station from numbers in bytes: its records as they stand in the 2,312 bytes of a sheet, and
+-- then its three counts, which need not be those of the sheet. Where the sheet's own counts (its
+-- bytes 5 and 6) are 64, every station can be given.
 use mathlib.Core.List.{List}
 use Prim.Native.Nat.{ℕ}
 use Rattle.bigendian.specs.BigEndian.{byteAt}

@@ -1,5 +1,5 @@
-// The writer of sheets for every station value, from numbers in bytes: what `./compare` tries it by. It is not shipped: a
-// station that no sheet gave does not come from a unit.
+// The writer of sheets for every station value, from numbers in bytes: what `./compare` tries it by. It is not
+// shipped: a station that no sheet gave does not come from a unit.
 ghost use mathlib.Core.Path.{_≡_};
 ghost use Rattle.sheet_writer.specs.Writer.{writtenSheet};
 ghost use Rattle.station_trial.specs.Values.{stationOf};
@@ -22,7 +22,10 @@ fn station_of(values: &[u8]) -> Station
 // Writes the sheet of the station with these numbers into the buffer.
 #[no_mangle]
 pub extern "C" fn trial_write_sheet(values: &[u8], buffer: &mut [u8]) -> u8
-    ensures { λ r. ⌜ record { code = r; bytes = now (buffer .exit) } ≡ writtenSheet (stationOf (now (values .entry))) (now (buffer .entry)) ⌝ }
+    ensures { λ r. ⌜
+        record { code = r; bytes = now (buffer .exit) }
+        ≡ writtenSheet (stationOf (now (values .entry))) (now (buffer .entry))
+        ⌝ }
 {
     sheet_writer::write_sheet(station_of(values), buffer)
 }

@@ -75,7 +75,8 @@ pub fn record_tried(
     next
 }
 
-// Hears record k, of n bytes, by the first bytes of a desk; writes whether it is changed. A record's buffer has a byte more than a record.
+// Hears record k, of n bytes, by the first bytes of a desk; writes whether it is changed. A record's buffer has a
+// byte more than a record.
 fn write_copy(sheet: &[u8], journal: &[u8], desk: &mut [u8], length: usize, k: u16, n: usize) {
     let mut before = [0u8; ROOM];
     copy(desk, &mut before);

@@ -1,16 +1,17 @@
-// Tries the unit on station K of document 01. The unit is proved to follow the rules in its crate's specs/; what this program writes
-// shows that these rules give the answers that the document does, and that a desk's bytes stand where the layout says.
-// Station K is in data/, the cases are in stdin and the expected lines in stdout, written from the document and the layout; no
-// expected number stands here.
+// Tries the unit on station K of document 01. The unit is proved to follow the rules in its crate's specs/; what this
+// program writes shows that these rules give the answers that the document does, and that a desk's bytes stand where
+// the layout says.
+// Station K is in data/, the cases are in stdin and the expected lines in stdout, written from the document and the
+// layout; no expected number stands here.
 //
-// One desk is kept from row to row, in a buffer of 521 bytes that are 7 at first. A row of the input that starts with # is a remark; an
-// empty row ends the input. Any other row starts with a name, which is written, and a number; damage may end it, pairs of a place and the
-// byte that is put there:
-// 1: stores the fresh desk in the first n bytes. Written: the code, and whether the buffer is changed. Then the desk gets the damage.
-// 2: hears record k of the journal, k from 1, with the damage. Written: k, the code, the minutes.
+// One desk is kept from row to row, in a buffer of 521 bytes that are 7 at first. A row of the input that starts with
+// # is a remark; an empty row ends the input. Any other row starts with a name, which is written, and a number;
+// damage may end it, pairs of a place and the byte that is put there:
+// 1: stores the fresh desk in the first n bytes. Written: the code, and whether the buffer is changed. Then the desk
+// gets the damage. 2: hears record k of the journal, k from 1, with the damage. Written: k, the code, the minutes.
 // 3: writes n bytes of the desk from a place on.
-// The others take a copy of the desk with the damage. They have the lengths of the sheet and of the desk, and then
-// 4: k and the length of a record, which is heard. Written: the code, the minutes, and whether the copy is changed.
+// The others take a copy of the desk with the damage. They have the lengths of the sheet and of the desk, and then 4:
+// k and the length of a record, which is heard. Written: the code, the minutes, and whether the copy is changed.
 // 5: zone and train of the movement question. Written: the code, the regime, the lowest turnout, the count.
 // 6: the turnout of the work question. Written: the code, and 1 for yes.
 mod hearing;

@@ -23,7 +23,8 @@ fn put_add(out: &mut [u8], at: usize, s: &mut [u8], r: &[u8]) -> usize {
     put_two(out, at, code as u32, sum32(s))
 }
 
-// Kind 9: the code of adding record b to journal a, and the sum of the journal then. Of a longer a the first 32,816 bytes count.
+// Kind 9: the code of adding record b to journal a, and the sum of the journal then. Of a longer a the first 32,816
+// bytes count.
 pub fn put_added(out: &mut [u8], at: usize, a: &[u8], b: &[u8]) -> usize {
     let mut buffer = [0u8; 32816];
     let n = copied(a, &mut buffer);

@@ -1,10 +1,10 @@
-// Runs stored cases through the desk and prints what it answers. The cases are in data/cases and the expected lines in
-// stdout; both were written by the further implementation of documents 01 and 02, in reference/, which shares nothing
-// with the desk. What is proved here is that the program is safe and ends.
+// Runs stored cases through the desk and prints what it answers. The cases are in data/cases and the expected lines
+// in stdout; both were written by the further implementation of documents 01 and 02, in reference/, which shares
+// nothing with the desk. What is proved here is that the program is safe and ends.
 //
-// A case: its kind (1 byte), two numbers x and y (4 bytes each), the lengths of two parts a and b (2 bytes each), all big-endian; then
-// the parts. A line: the case's number from 1, and the numbers that its kind prints (stations.rt, messages.rt and journals.rt have the
-// kinds), a space between any two.
+// A case: its kind (1 byte), two numbers x and y (4 bytes each), the lengths of two parts a and b (2 bytes each), all
+// big-endian; then the parts. A line: the case's number from 1, and the numbers that its kind prints (stations.rt,
+// messages.rt and journals.rt have the kinds), a space between any two.
 mod journals;
 mod messages;
 mod numbers;
@@ -70,8 +70,8 @@ fn put_line(out: &mut [u8], at: usize, n: u32, c: Case, a: &[u8], b: &[u8]) -> u
     report::put_byte(out, end, b'\n')
 }
 
-// Puts the lines of the cases that stand one after another in s, at most 4,096; says where they end. What is too short for a case
-// ends the cases.
+// Puts the lines of the cases that stand one after another in s, at most 4,096; says where they end. What is too
+// short for a case ends the cases.
 fn put_lines(out: &mut [u8], s: &[u8]) -> usize {
     let mut rest = s;
     let mut at: usize = 0;

@@ -27,7 +27,8 @@ fn written_sum(m: Message) -> u32 {
     sum32(&s)
 }
 
-// Kind 5: the code of record a; of an accepted one also its fields, and the sum of the bytes that writing it again gives.
+// Kind 5: the code of record a; of an accepted one also its fields, and the sum of the bytes that writing it again
+// gives.
 pub fn put_record(out: &mut [u8], at: usize, a: &[u8]) -> usize {
     let reading = message::read_record(a);
     let next = put_number(out, at, message::reading_code(reading) as u32);
@@ -62,8 +63,8 @@ fn put_write(out: &mut [u8], at: usize, m: Message, s: &mut [u8]) -> usize {
     put_two(out, at, code as u32, sum32(s))
 }
 
-// Kind 6: the code of writing the message of a into buffer b, and the sum of the buffer then. Of a longer b the first 64 bytes are
-// the buffer.
+// Kind 6: the code of writing the message of a into buffer b, and the sum of the buffer then. Of a longer b the first
+// 64 bytes are the buffer.
 pub fn put_written(out: &mut [u8], at: usize, a: &[u8], b: &[u8]) -> usize {
     let mut buffer = [0u8; 64];
     let n = copied(b, &mut buffer);

@@ -34,8 +34,8 @@ fn put_answers(out: &mut [u8], at: usize, answers: &[u8], n: u32) -> usize {
     next
 }
 
-// Kind 2: the code of journal b on sheet a; where it is 0 also each record's code and minutes. A journal has at most 1,024
-// records, and an answer takes 5 bytes.
+// Kind 2: the code of journal b on sheet a; where it is 0 also each record's code and minutes. A journal has at most
+// 1,024 records, and an answer takes 5 bytes.
 pub fn put_replay(out: &mut [u8], at: usize, a: &[u8], b: &[u8]) -> usize {
     let mut answers = [0u8; 5120];
     let code = replay::replay(a, b, &mut answers);

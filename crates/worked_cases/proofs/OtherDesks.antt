@@ -36,7 +36,8 @@ nothing-worked t under = true≢false (sym under)
 -- so the signals must be clear: no desk that never answers clear meets demand 3
 pub always-held-fails :
     (movement : Station → Desk → ℕ → ℕ → MovementAnswer)
-    → ((st : Station) (d : Desk) (zone train : ℕ) → isClear (movement st d zone train .regime) ≡ false)
+    → ((st : Station) (d : Desk) (zone train : ℕ)
+    → isClear (movement st d zone train .regime) ≡ false)
     → Demand3 (answeringMovements movement) → ⊥
 unfolding accepted
 always-held-fails movement held demand =

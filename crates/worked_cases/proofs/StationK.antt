@@ -12,9 +12,11 @@ use Rattle.sheet.specs.Sheet.{goodRoute, badRoute, routesJudged, judged, readSh
 use Rattle.signals.specs.Answer as Verdicts
 use Rattle.zone.specs.Work.{minutesBetween}
 use Rattle.zone.specs.Movement.{regimeOn}
-use Rattle.zone.specs.Trains.{movementUnder, noPlace, namedStanding, clearedStanding, placed, changed}
+use Rattle.zone.specs.Trains.{movementUnder, noPlace, namedStanding, clearedStanding, placed}
+use Rattle.zone.specs.Trains.{changed}
 use Rattle.rules.specs.Clearance.{clearanceFits}
-use Rattle.rules.specs.Kinds.{row, workAfter, moved, recorderAfter, minutesFor, zoneAfter, answered, heardOn, heard}
+use Rattle.rules.specs.Kinds.{row, workAfter, moved, recorderAfter, minutesFor, zoneAfter, answered}
+use Rattle.rules.specs.Kinds.{heardOn, heard}
 use Rattle.desk.specs.Desk.{freshDesk, reached, applied, appliedRecord}
 use Rattle.desk.specs.Questions.{movementAnswered, workAnswered}
 use Rattle.journal.specs.Journal.{isJournal, journalNumber, counted, recordsFrom, records}
@@ -25,7 +27,17 @@ use Rattle.replay.specs.Replay.{inputsOf, storedFrom, ran, replayed}
 use Rattle.worked_cases.specs.StationK.{Cases}
 
 pub station-k : Cases
-unfolding readSheet headerNumber stationIn places valuesFrom judged routesJudged badTurnout badRoute goodTurnout goodRoute firstFrom allFrom tied tiedWith has single after answers accepted ofZone reached applied appliedRecord readRecord decoded headBytes encoded named fieldsKept fieldNumber heard heardOn answered row workAfter moved movementUnder noPlace namedStanding clearedStanding placed changed recorderAfter minutesFor minutesBetween zoneAfter zoneTurnouts setOf splits theRoute regimeOn clearanceFits freshDesk movementAnswered workAnswered isJournal journalNumber counted recordsFrom records inputsOf replayed ran storedFrom withAnswer textOf linesFrom lineOf decimal digits Verdicts.judged
+unfolding readSheet headerNumber stationIn places valuesFrom judged routesJudged badTurnout badRoute
+    goodTurnout goodRoute firstFrom allFrom tied tiedWith has single
+    after answers accepted ofZone reached applied appliedRecord
+    readRecord decoded headBytes encoded named fieldsKept fieldNumber
+    heard heardOn answered row workAfter moved movementUnder noPlace namedStanding clearedStanding
+    placed changed recorderAfter minutesFor minutesBetween zoneAfter
+    zoneTurnouts setOf splits theRoute regimeOn clearanceFits
+    freshDesk movementAnswered workAnswered
+    isJournal journalNumber counted recordsFrom records
+    inputsOf replayed ran storedFrom withAnswer
+    textOf linesFrom lineOf decimal digits Verdicts.judged
 station-k = record {
   sheet = refl;
   output = refl;

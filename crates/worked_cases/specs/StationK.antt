@@ -15,10 +15,12 @@ use Rattle.journal.specs.Journal.{counted, records}
 use Rattle.report.specs.Text.{textOf}
 use Rattle.history.specs.Lists.{Input, message, bytes, Reply, after, answers, zoneMessages}
 use Rattle.history.specs.Demand3.{ours}
-use Rattle.history.specs.Cases.{plain, naming, clearing, acceptedK, upTo3, upTo6, upTo8, upTo10, asked}
+use Rattle.history.specs.Cases.{plain, naming, clearing, acceptedK, upTo3, upTo6, upTo8, upTo10}
+use Rattle.history.specs.Cases.{asked}
 use Rattle.replay.specs.Replay.{replayed}
 
--- "P = 3, Z = 1, R = 1; 0 and 1 an electric crossover, 2 alone by hand; route 0 runs over {0}, flank {2}, reverse empty: 50 bytes."
+-- "P = 3, Z = 1, R = 1; 0 and 1 an electric crossover, 2 alone by hand; route 0 runs over {0},
+-- flank {2}, reverse empty: 50 bytes."
 abbrev pub sheetK : List ℕ
 sheetK =
     83 ∷ 80 ∷ 84 ∷ 0 ∷ 1 ∷ 3 ∷ 1 ∷ 1
@@ -35,8 +37,9 @@ sheetK =
 abbrev pub stationK : Station
 stationK = readSheet sheetK .station
 
--- "Records, all zone 0: 1 (t 0, id 7, M.45, {0,1}); 2 (t 90); 4 (t 100, a {0,1}); 5 (t 110, train 512, route 0); 7 clear (t 111); 6 (t 115,
--- turnout 0, declaration 3, normal, 0, voice); 7 clear (t 116); 7 danger (t 117); 11 (t 118); 8 (t 130); 11 (t 209)."
+-- "Records, all zone 0: 1 (t 0, id 7, M.45, {0,1}); 2 (t 90); 4 (t 100, a {0,1}); 5 (t 110, train
+-- 512, route 0); 7 clear (t 111); 6 (t 115, turnout 0, declaration 3, normal, 0, voice); 7 clear (t
+-- 116); 7 danger (t 117); 11 (t 118); 8 (t 130); 11 (t 209)."
 abbrev pub messagesK : List Message
 messagesK =
     naming 1 0 7 3 0 1
@@ -56,7 +59,8 @@ messagesK =
 abbrev pub recordsK : List Input
 recordsK = map (λ (m : Message). bytes (encoded m)) messagesK
 
--- the journal that holds them: "WKJ, version (16 bits, 1), count (32 bits ..), seven zeros; then the records"
+-- the journal that holds them: "WKJ, version (16 bits, 1), count (32 bits ..), seven zeros; then
+-- the records"
 abbrev pub journalK : List ℕ
 journalK =
     87 ∷ 75 ∷ 74 ∷ 0 ∷ 1 ∷ 0 ∷ 0 ∷ 0 ∷ 11 ∷ 0 ∷ 0 ∷ 0 ∷ 0 ∷ 0 ∷ 0 ∷ 0
@@ -114,7 +118,18 @@ pub record Cases : Type 0 where
   pub sheet : readSheet sheetK .code ≡ 0
   pub output :
       answers ours stationK freshDesk recordsK
-      ≡ reply 0 0 ∷ reply 0 0 ∷ reply 0 0 ∷ reply 0 0 ∷ reply 22 0 ∷ reply 0 0 ∷ reply 22 0 ∷ reply 0 0 ∷ reply 19 0 ∷ reply 0 0 ∷ reply 0 1 ∷ []
+      ≡ reply 0 0
+      ∷ reply 0 0
+      ∷ reply 0 0
+      ∷ reply 0 0
+      ∷ reply 22 0
+      ∷ reply 0 0
+      ∷ reply 22 0
+      ∷ reply 0 0
+      ∷ reply 19 0
+      ∷ reply 0 0
+      ∷ reply 0 1
+      ∷ []
   -- the same as the program prints it, from the bytes of the two files
   pub journal : records journalK ≡ map encoded messagesK
   pub text : textOf (replayedK .code) (replayedK .bytes) (counted journalK) ≡ linesK
@@ -129,26 +144,42 @@ pub record Cases : Type 0 where
   pub turnout-3 : answersK (naming 1 0 7 8 0 1 ∷ []) ≡ reply 17 0 ∷ []
   pub turnout-3-too : answersK (naming 1 0 7 11 0 1 ∷ []) ≡ reply 17 0 ∷ []
   -- "{2} agreed under verbal, b {2}: 22; a {2}: 0."
-  pub verbal-b : answersK (verbal ++ (naming 4 20 9 0 4 0 ∷ [])) ≡ reply 0 0 ∷ reply 0 0 ∷ reply 22 0 ∷ []
-  pub verbal-a : answersK (verbal ++ (naming 4 20 9 4 0 0 ∷ [])) ≡ reply 0 0 ∷ reply 0 0 ∷ reply 0 0 ∷ []
+  pub verbal-b :
+      answersK (verbal ++ (naming 4 20 9 0 4 0 ∷ []))
+      ≡ reply 0 0 ∷ reply 0 0 ∷ reply 22 0 ∷ []
+  pub verbal-a :
+      answersK (verbal ++ (naming 4 20 9 4 0 0 ∷ []))
+      ≡ reply 0 0 ∷ reply 0 0 ∷ reply 0 0 ∷ []
   -- "There, movement asked: declaration 3: 20; 8 with clamp 1: 20; 8 with 0: 0."
-  pub declaration-3 : answersK (verbalMovement ++ (clearing 30 600 2 3 0 1 ∷ [])) ≡ reply 0 0 ∷ reply 0 0 ∷ reply 0 0 ∷ reply 20 0 ∷ []
-  pub declaration-8-clamp : answersK (verbalMovement ++ (clearing 30 600 2 8 1 1 ∷ [])) ≡ reply 0 0 ∷ reply 0 0 ∷ reply 0 0 ∷ reply 20 0 ∷ []
-  pub declaration-8 : answersK (verbalMovement ++ (clearing 30 600 2 8 0 1 ∷ [])) ≡ reply 0 0 ∷ reply 0 0 ∷ reply 0 0 ∷ reply 0 0 ∷ []
+  pub declaration-3 :
+      answersK (verbalMovement ++ (clearing 30 600 2 3 0 1 ∷ []))
+      ≡ reply 0 0 ∷ reply 0 0 ∷ reply 0 0 ∷ reply 20 0 ∷ []
+  pub declaration-8-clamp :
+      answersK (verbalMovement ++ (clearing 30 600 2 8 1 1 ∷ []))
+      ≡ reply 0 0 ∷ reply 0 0 ∷ reply 0 0 ∷ reply 20 0 ∷ []
+  pub declaration-8 :
+      answersK (verbalMovement ++ (clearing 30 600 2 8 0 1 ∷ []))
+      ≡ reply 0 0 ∷ reply 0 0 ∷ reply 0 0 ∷ reply 0 0 ∷ []
   -- "Recorder out: voice 21, written 0."
-  pub voice : answersK (recorderOut ++ (clearing 30 600 2 8 0 1 ∷ [])) ≡ reply 0 0 ∷ reply 0 0 ∷ reply 0 0 ∷ reply 0 0 ∷ reply 21 0 ∷ []
-  pub written : answersK (recorderOut ++ (clearing 30 600 2 8 0 2 ∷ [])) ≡ reply 0 0 ∷ reply 0 0 ∷ reply 0 0 ∷ reply 0 0 ∷ reply 0 0 ∷ []
+  pub voice :
+      answersK (recorderOut ++ (clearing 30 600 2 8 0 1 ∷ []))
+      ≡ reply 0 0 ∷ reply 0 0 ∷ reply 0 0 ∷ reply 0 0 ∷ reply 21 0 ∷ []
+  pub written :
+      answersK (recorderOut ++ (clearing 30 600 2 8 0 2 ∷ []))
+      ≡ reply 0 0 ∷ reply 0 0 ∷ reply 0 0 ∷ reply 0 0 ∷ reply 0 0 ∷ []
   -- "Time equal to the last: 0; one less: 14."
   pub time-equal : answersK (naming 1 5 7 3 0 1 ∷ plain 2 5 7 ∷ []) ≡ reply 0 0 ∷ reply 0 0 ∷ []
   pub time-less : answersK (naming 1 5 7 3 0 1 ∷ plain 2 4 7 ∷ []) ≡ reply 0 0 ∷ reply 14 0 ∷ []
   -- "59 s: 0 minutes; 60 s: 1."
   pub seconds-59 : answersK (restored 69) ≡ reply 0 0 ∷ reply 0 0 ∷ reply 0 0 ∷ []
   pub seconds-60 : answersK (restored 70) ≡ reply 0 0 ∷ reply 0 0 ∷ reply 0 1 ∷ []
-  -- "Line 1, by day, not held, no SSC, no lights: signal 1 gives 3, signal 2 gives 2; line 2 signal 1 gives 5."
+  -- "Line 1, by day, not held, no SSC, no lights: signal 1 gives 3, signal 2 gives 2; line 2 signal
+  -- 1 gives 5."
   pub signal-1 : Verdicts.judged 1 1 2 ≡ record { code = 0; verdict = 3 }
   pub signal-2 : Verdicts.judged 1 2 2 ≡ record { code = 0; verdict = 2 }
   pub line-2 : Verdicts.judged 2 1 2 ≡ record { code = 0; verdict = 5 }
-  -- the accepted messages after records 3, 6, 8, 10 and 11 are those that the history's words are tried on
+  -- the accepted messages after records 3, 6, 8, 10 and 11 are those that the history's words are
+  -- tried on
   pub heard-3 : heardK 3 ≡ upTo3
   pub heard-6 : heardK 6 ≡ upTo6
   pub heard-8 : heardK 8 ≡ upTo8

@@ -1,4 +1,5 @@
--- Every value of a packed answer comes back where it is below 256; a record's place needs that of the code alone.
+-- Every value of a packed answer comes back where it is below 256; a record's place needs that of
+-- the code alone.
 use mathlib.Core.Bool.{Bool, true, false}
 use mathlib.Core.Path.{_≡_, refl, sym, ap, _∙_}
 use Prim.Native.Nat.{ℕ, _+_, _*_, _<_}
@@ -36,7 +37,9 @@ record-bytes code n fits = record {
     go true p =
         let none = eqb-true code 0 p in
         let zero-fits : 0 < 256 = omega arith in
-        ap (byteOf 0) (place-packed code n none) ∙ lowest-byte 0 (recordPlace n) zero-fits ∙ sym none
+        ap (byteOf 0) (place-packed code n none)
+        ∙ lowest-byte 0 (recordPlace n) zero-fits
+        ∙ sym none
     go false p = rw (p, mod-eq-of-lt fits)
 
     placed : code ≡ 0 → above 1 (recordPacked code n) ≡ recordPlace n

@@ -1,4 +1,5 @@
--- Answers of several values as one number: the code in its lowest byte, and the other values above it.
+-- Answers of several values as one number: the code in its lowest byte, and the other values above
+-- it.
 use mathlib.Core.Bool.{cond}
 use mathlib.Core.List.{List}
 use Prim.Native.Nat.{ℕ, _+_, _*_}

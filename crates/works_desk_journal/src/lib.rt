@@ -1,6 +1,6 @@
-// The static library of the works desk, for firmware in C or Rust: numbers and byte slices only. A byte slice goes as a pointer and
-// a length; several values come back packed in one number, which specs/Packed.antt and the crate `packed` define. Every function takes
-// any bytes and any numbers.
+// The static library of the works desk, for firmware in C or Rust: numbers and byte slices only. A byte slice goes as
+// a pointer and a length; several values come back packed in one number, which specs/Packed.antt and the crate
+// `packed` define. Every function takes any bytes and any numbers.
 ghost use mathlib.Core.Path.{_≡_};
 ghost use Rattle.message.specs.Record.{readRecord, written};
 ghost use Rattle.sheet.specs.Sheet.{readSheet};
@@ -23,7 +23,10 @@ pub extern "C" fn desk_sheet(sheet: &[u8]) -> u32
 // Reads a sheet and writes it into the buffer: the code, and 256 times the index of the bad record. It never gives 7.
 #[no_mangle]
 pub extern "C" fn desk_copy_sheet(sheet: &[u8], buffer: &mut [u8]) -> u32
-    ensures { λ r. ⌜ record { answer = r; bytes = now (buffer .exit) } ≡ copyPacked (copiedSheet (now (sheet .entry)) (now (buffer .entry))) ⌝ }
+    ensures { λ r. ⌜
+        record { answer = r; bytes = now (buffer .exit) }
+        ≡ copyPacked (copiedSheet (now (sheet .entry)) (now (buffer .entry)))
+        ⌝ }
 {
     let found = sheet_writer::copy_sheet(sheet, buffer);
     (found.code as u32) + 256 * (found.index as u32)
@@ -54,7 +57,23 @@ pub extern "C" fn desk_write_record(
     d5: u8,
     buffer: &mut [u8],
 ) -> u8
-    ensures { λ r. ⌜ record { code = r; bytes = now (buffer .exit) } ≡ written (record { kind = kind; zone = zone; time = time; id = id; a = a; b = b; d0 = d0; d1 = d1; d2 = d2; d3 = d3; d4 = d4; d5 = d5 }) (now (buffer .entry)) ⌝ }
+    ensures { λ r. ⌜
+        record { code = r; bytes = now (buffer .exit) }
+        ≡ written (record {
+          kind = kind;
+          zone = zone;
+          time = time;
+          id = id;
+          a = a;
+          b = b;
+          d0 = d0;
+          d1 = d1;
+          d2 = d2;
+          d3 = d3;
+          d4 = d4;
+          d5 = d5;
+        }) (now (buffer .entry))
+        ⌝ }
 {
     let m = Message {
         kind,
@@ -76,12 +95,16 @@ pub extern "C" fn desk_write_record(
 // Hears every record of a journal and stores each one's code and minutes.
 #[no_mangle]
 pub extern "C" fn desk_replay(sheet: &[u8], journal: &[u8], answers: &mut [u8]) -> u8
-    ensures { λ r. ⌜ record { code = r; bytes = now (answers .exit) } ≡ replayed (now (sheet .entry)) (now (journal .entry)) (now (answers .entry)) ⌝ }
+    ensures { λ r. ⌜
+        record { code = r; bytes = now (answers .exit) }
+        ≡ replayed (now (sheet .entry)) (now (journal .entry)) (now (answers .entry))
+        ⌝ }
 {
     replay::replay(sheet, journal, answers)
 }
 
-// The movement question after a journal: the code, the regime, the lowest turnout lacking a clearance, how many lack one, a byte each.
+// The movement question after a journal: the code, the regime, the lowest turnout lacking a clearance, how many lack
+// one, a byte each.
 #[no_mangle]
 pub extern "C" fn desk_movement(sheet: &[u8], journal: &[u8], zone: u8, train: u32) -> u64
     ensures { λ r. ⌜ r ≡ movementPacked (movementReplayed (now (sheet .entry)) (now (journal .entry)) zone train) ⌝ }
@@ -129,7 +152,10 @@ pub extern "C" fn desk_journal_record(journal: &[u8], n: u32) -> u64
 // Adds a record to a journal.
 #[no_mangle]
 pub extern "C" fn desk_journal_add(journal: &mut [u8], record: &[u8]) -> u8
-    ensures { λ r. ⌜ record { code = r; bytes = now (journal .exit) } ≡ added (now (journal .entry)) (now («record» .entry)) ⌝ }
+    ensures { λ r. ⌜
+        record { code = r; bytes = now (journal .exit) }
+        ≡ added (now (journal .entry)) (now («record» .entry))
+        ⌝ }
 {
     journal::add(journal, record)
 }

@@ -1,5 +1,5 @@
--- The numbers that the unit's calls return show demand 3: on an accepted sheet their code fits its byte, so that byte 1 is yes, or the
--- regime.
+-- The numbers that the unit's calls return show demand 3: on an accepted sheet their code fits its
+-- byte, so that byte 1 is yes, or the regime.
 use mathlib.Core.Bool.{Bool, true, false, cond, not}
 use mathlib.Core.List.{List}
 use mathlib.Core.Logic.{_↔_, Iff·trans}
@@ -29,10 +29,13 @@ use Rattle.works_desk_unit.proofs.Codes.{answer-fits}
 use Rattle.works_desk_unit.proofs.Demand3.{unit-demand3}
 
 -- the desk's codes for the two questions: 0, 12, 15; 0, 13
-movement-fits : (st : Station) (d : Desk) (zone train : ℕ) → movementAnswered st d zone train .code < 256
+movement-fits :
+    (st : Station) (d : Desk) (zone train : ℕ) → movementAnswered st d zone train .code < 256
 unfolding movementAnswered
 movement-fits st d zone train =
-    go (not (ltb zone (zoneCount st))) refl (not (isStanding (movementUnder (zoneAt d zone) train))) refl
+    let none = not (ltb zone (zoneCount st)) in
+    let idle = not (isStanding (movementUnder (zoneAt d zone) train)) in
+    go none refl idle refl
   where
     go :
         (none : Bool) → not (ltb zone (zoneCount st)) ≡ none
@@ -46,13 +49,16 @@ work-fits : (st : Station) (d : Desk) (turnout : ℕ) → workAnswered st d turn
 unfolding workAnswered
 work-fits st d turnout = go (not (ltb turnout (turnoutCount st))) refl
   where
-    go : (none : Bool) → not (ltb turnout (turnoutCount st)) ≡ none → workAnswered st d turnout .code < 256
+    go :
+        (none : Bool) → not (ltb turnout (turnoutCount st)) ≡ none →
+        workAnswered st d turnout .code < 256
     go true p = rw p (lit< tt)
     go false p = rw p (lit< tt)
 
 -- and the unit's, which may be 61
 unit-movement-fits :
-    (sheet s : List ℕ) → readSheet sheet .code ≡ 0 → (zone train : ℕ) → unitMovement sheet s zone train .code < 256
+    (sheet s : List ℕ) → readSheet sheet .code ≡ 0 → (zone train : ℕ)
+    → unitMovement sheet s zone train .code < 256
 unfolding unitMovement started
 unit-movement-fits sheet s good zone train = go (isDesk s) refl
   where
@@ -63,7 +69,9 @@ unit-movement-fits sheet s good zone train = go (isDesk s) refl
     go true p = rw (accepted, p) (movement-fits (readSheet sheet .station) (deskIn s) zone train)
     go false p = rw (accepted, p) (lit< tt)
 
-unit-work-fits : (sheet s : List ℕ) → readSheet sheet .code ≡ 0 → (turnout : ℕ) → unitWork sheet s turnout .code < 256
+unit-work-fits :
+    (sheet s : List ℕ) → readSheet sheet .code ≡ 0 → (turnout : ℕ) →
+    unitWork sheet s turnout .code < 256
 unfolding unitWork started
 unit-work-fits sheet s good turnout = go (isDesk s) refl
   where
@@ -103,5 +111,6 @@ calls-demand3 sheet good inputs pass =
       clear = λ z f rest stands.
           let a = unitMovement sheet last z (f .id) in
           let byte = regime-byte a (unit-movement-fits sheet last good z (f .id)) in
-          Iff·trans (of-byte byte) (Iff·trans (clear-is-1 (a .regime)) (held .clear z f rest stands));
+          Iff·trans (of-byte byte)
+          (Iff·trans (clear-is-1 (a .regime)) (held .clear z f rest stands));
     }

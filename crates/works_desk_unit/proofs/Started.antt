@@ -1,5 +1,5 @@
--- What a unit may rely on once neither the sheet nor the desk is refused: the bytes are a desk's, a record is heard by the zone in its
--- place, and storing that zone is storing the desk.
+-- What a unit may rely on once neither the sheet nor the desk is refused: the bytes are a desk's, a
+-- record is heard by the zone in its place, and storing that zone is storing the desk.
 use mathlib.Core.Bool.{Bool, true, false}
 use mathlib.Core.List.{List}
 use mathlib.Core.Path.{_≡_, refl}
@@ -32,7 +32,9 @@ pub started-desk : (sheet desk : List ℕ) → started sheet desk .code ≡ 0 �
 unfolding started
 started-desk sheet desk code = go (eqb (readSheet sheet .code) 0) refl (isDesk desk) refl
   where
-    go : (good : Bool) → eqb (readSheet sheet .code) 0 ≡ good → (told : Bool) → isDesk desk ≡ told → isDesk desk ≡ true
+    go :
+        (good : Bool) → eqb (readSheet sheet .code) 0 ≡ good → (told : Bool) → isDesk desk ≡ told →
+        isDesk desk ≡ true
     go true p true q = q
     go true p false q = let refused : _≡_ {A = ℕ} 61 0 = rw (p, q) at code in absurd (omega arith)
     go false p told q = absurd (eqb-false (readSheet sheet .code) 0 p (rw p at code))
@@ -55,6 +57,8 @@ record-refused st s r number read = rw (← read, ne-eqb number 0 (refused-by r 
 -- an accepted answer of the zone in place k, stored
 pub zone-answered :
     (s : List ℕ) (k : ℕ) (a : Answer) → isDesk s ≡ true → k < 8 → a .code ≡ 0
-    → stored s (putBack (deskIn s) k a) ≡ record { code = 0; minutes = a .minutes; bytes = storedZone s k (a .zone) }
+    → stored s (putBack (deskIn s) k a)
+    ≡ record { code = 0; minutes = a .minutes; bytes = storedZone s k (a .zone) }
 unfolding stored
-zone-answered s k a told below zero = rw (eq-eqb (a .code) 0 zero, zone-stored s k (a .zone) told below)
+zone-answered s k a told below zero =
+    rw (eq-eqb (a .code) 0 zero, zone-stored s k (a .zone) told below)

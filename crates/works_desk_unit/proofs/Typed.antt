@@ -1,4 +1,5 @@
--- Hearing keeps the bounds: from the fresh desk on, records of bytes leave a desk whose numbers of several bytes are of their machine types.
+-- Hearing keeps the bounds: from the fresh desk on, records of bytes leave a desk whose numbers of
+-- several bytes are of their machine types.
 use mathlib.Core.Path.{_≡_, refl, _∙_}
 use mathlib.Core.Bool.{Bool, true, false, cond}
 use mathlib.Core.List.{List, [], _∷_}
@@ -43,7 +44,9 @@ read-typed : (s : List ℕ) → Bytes s → Typed (readRecord s .message)
 unfolding readRecord decoded
 read-typed s byte = go (eqb (length s) 32) refl (eqb (fieldNumber (decoded s)) 0) refl
   where
-    go : (whole : Bool) → eqb (length s) 32 ≡ whole → (rules : Bool) → eqb (fieldNumber (decoded s)) 0 ≡ rules → Typed (readRecord s .message)
+    go :
+        (whole : Bool) → eqb (length s) 32 ≡ whole → (rules : Bool) →
+        eqb (fieldNumber (decoded s)) 0 ≡ rules → Typed (readRecord s .message)
     go true p true q =
         rw (p, q)
         (record {
@@ -52,7 +55,8 @@ read-typed s byte = go (eqb (length s) 32) refl (eqb (fieldNumber (decoded s)) 0
           a = number-lt 8 s 10 byte;
           b = number-lt 8 s 18 byte;
         })
-    go true p false q = rw (p, q) (record { time = lit< tt; id = lit< tt; a = lit< tt; b = lit< tt })
+    go true p false q =
+        rw (p, q) (record { time = lit< tt; id = lit< tt; a = lit< tt; b = lit< tt })
     go false p rules q = rw p (record { time = lit< tt; id = lit< tt; a = lit< tt; b = lit< tt })
 
 -- sets of turnouts below 64 stay so
@@ -70,7 +74,8 @@ without-lt a b h = xor-lt 64 a (bitAnd a b) h (lt-of-le-of-lt (and-le-l a b) h)
 -- what the kinds do to work
 agreed-typed : (w : Work) (time : ℕ) → TypedWork w → time < 2 ^ 32 → TypedWork (agreedFrom w time)
 agreed-typed NoWork time fits now = fits
-agreed-typed (Asked q) time fits now = record { form = fits .form; set = fits .set; since = now; opened = lit< tt }
+agreed-typed (Asked q) time fits now =
+    record { form = fits .form; set = fits .set; since = now; opened = lit< tt }
 agreed-typed (Agreed g) time fits now = fits
 
 opened-typed : (w : Work) (s : ℕ) → TypedWork w → s < 2 ^ 64 → TypedWork (openedTo w s)
@@ -104,12 +109,15 @@ restored-typed (Agreed g) s fits = record {
 }
 
 -- and to a movement
-cleared-typed : (v : Movement) (n : ℕ) (efficient : Bool) → TypedMovement v → TypedMovement (clearedAt v n efficient)
+cleared-typed :
+    (v : Movement) (n : ℕ) (efficient : Bool) → TypedMovement v →
+    TypedMovement (clearedAt v n efficient)
 cleared-typed NoMovement n efficient fits = fits
 cleared-typed (Standing p) n efficient fits = record {
   train = fits .train;
   cleared = or-lt 64 (p .cleared) (single n) (fits .cleared) (single-lt n);
-  efficient = or-lt 64 (p .efficient) (cond efficient (single n) 0) (fits .efficient) (one efficient);
+  efficient =
+      or-lt 64 (p .efficient) (cond efficient (single n) 0) (fits .efficient) (one efficient);
 }
   where
     one : (b : Bool) → cond b (single n) 0 < 2 ^ 64
@@ -118,10 +126,13 @@ cleared-typed (Standing p) n efficient fits = record {
 
 ordered-typed : (v : Movement) (order : ℕ) → TypedMovement v → TypedMovement (orderedAs v order)
 ordered-typed NoMovement order fits = fits
-ordered-typed (Standing p) order fits = record { train = fits .train; cleared = fits .cleared; efficient = fits .efficient }
+ordered-typed (Standing p) order fits =
+    record { train = fits .train; cleared = fits .cleared; efficient = fits .efficient }
 
 -- a zone after a message that passed the checks of its kind
-after-typed : (st : Station) (z : Zone) (m : Message) → Typed m → TypedZone z → first (checksOf (m .kind) st z m) ≡ 0 → TypedZone (zoneAfter (m .kind) z m)
+after-typed :
+    (st : Station) (z : Zone) (m : Message) → Typed m → TypedZone z →
+    first (checksOf (m .kind) st z m) ≡ 0 → TypedZone (zoneAfter (m .kind) z m)
 unfolding zoneAfter row workAfter moved
 after-typed st z m told fits checks =
     let both = by-kind (m .kind) checks in
@@ -136,30 +147,50 @@ after-typed st z m told fits checks =
     becomes : (v : Movement) → TypedMovement v → TypedMovement (changed (z .movement) (m .id) v)
     becomes v new = every-changed TypedMovement (z .movement) (m .id) v (fits .movement) new
 
-    by-kind : (k : ℕ) → first (checksOf k st z m) ≡ 0 → TypedWork (workAfter k (z .work) m) × TypedMovement (moved k z m .movement)
+    by-kind :
+        (k : ℕ) → first (checksOf k st z m) ≡ 0 →
+        TypedWork (workAfter k (z .work) m) × TypedMovement (moved k z m .movement)
     by-kind =
-        each-kind (λ k. first (checksOf k st z m) ≡ 0 → TypedWork (workAfter k (z .work) m) × TypedMovement (moved k z m .movement))
+        each-kind (λ k. first (checksOf k st z m) ≡ 0
+        → TypedWork (workAfter k (z .work) m) × TypedMovement (moved k z m .movement))
         ((λ none. absurd (omega arith))
-        also (λ none. (record { form = told .id; set = told .a; since = lit< tt; opened = lit< tt }, fits .movement))
+        also (λ none. (
+          record { form = told .id; set = told .a; since = lit< tt; opened = lit< tt },
+          fits .movement,
+        ))
         also (λ none. (agreed-typed (z .work) (m .time) (fits .work) (told .time), fits .movement))
         also (λ none. (no-work-typed, fits .movement))
-        also (λ none. (opened-typed (z .work) (union (m .a) (m .b)) (fits .work) (or-lt 64 (m .a) (m .b) (told .a) (told .b)), fits .movement))
-        also (λ none. (fits .work, every-placed TypedMovement (z .movement) (movementFor (m .id) (m .d0)) (fits .movement) (record { train = told .id; cleared = lit< tt; efficient = lit< tt })))
-        also (λ none. (shut-typed (z .work) (single (m .d0)) (fits .work), becomes (clearedAt its (m .d0) (isEfficient (m .d1))) (cleared-typed its (m .d0) (isEfficient (m .d1)) its-typed)))
-        also (λ none. (fits .work, becomes (orderedAs its (m .d0)) (ordered-typed its (m .d0) its-typed)))
+        also (λ none.
+        let either = or-lt 64 (m .a) (m .b) (told .a) (told .b) in
+        (opened-typed (z .work) (union (m .a) (m .b)) (fits .work) either, fits .movement))
+        also (λ none.
+        let placed = movementFor (m .id) (m .d0) in
+        let typed : TypedMovement placed =
+        record { train = told .id; cleared = lit< tt; efficient = lit< tt } in
+        (fits .work, every-placed TypedMovement (z .movement) placed (fits .movement) typed))
+        also (λ none.
+        let cleared = clearedAt its (m .d0) (isEfficient (m .d1)) in
+        let typed = cleared-typed its (m .d0) (isEfficient (m .d1)) its-typed in
+        (shut-typed (z .work) (single (m .d0)) (fits .work), becomes cleared typed))
+        also (λ none.
+        let typed = ordered-typed its (m .d0) its-typed in
+        (fits .work, becomes (orderedAs its (m .d0)) typed))
         also (λ none. (fits .work, becomes NoMovement no-movement-typed))
         also (λ none. (fits .work, becomes NoMovement no-movement-typed))
         also (λ none. (restored-typed (z .work) (m .a) (fits .work), fits .movement))
         also (λ none. (no-work-typed, fits .movement))
         also (λ none. (fits .work, fits .movement))
         also tt)
-        (λ k past none. let eleven : _≡_ {A = ℕ} 11 0 = rw (List·getD-eq-default rows noKind past) at none in absurd (omega arith))
+        (λ k past none.
+        let eleven : _≡_ {A = ℕ} 11 0 = rw (List·getD-eq-default rows noKind past) at none in
+        absurd (omega arith))
 
 -- one zone is put back
 each-set : (l : List Zone) (k : ℕ) (z : Zone) → TypedZone z → Each l → Each (set l k z)
 each-set [] k z next all = each-none
 each-set (y ∷ l) zero z next all = each-next z l next (λ n. all (suc n))
-each-set (y ∷ l) (suc k) z next all = each-next y (set l k z) (all 0) (each-set l k z next (λ n. all (suc n)))
+each-set (y ∷ l) (suc k) z next all =
+    each-next y (set l k z) (all 0) (each-set l k z next (λ n. all (suc n)))
 
 pub fresh-typed : TypedDesk freshDesk
 unfolding freshDesk
@@ -167,19 +198,27 @@ fresh-typed = record { zones = refl; each = all 8 }
   where
     all : (n : ℕ) → Each (replicate n freshZone)
     all zero = each-none
-    all (suc n) = each-next freshZone (replicate n freshZone) (record { work = no-work-typed; movement = no-movement-typed; time = lit< tt }) (all n)
+    all (suc n) =
+        each-next freshZone (replicate n freshZone)
+        (record { work = no-work-typed; movement = no-movement-typed; time = lit< tt })
+        (all n)
 
-pub applied-typed : (st : Station) (d : Desk) (s : List ℕ) → TypedDesk d → Bytes s → TypedDesk (appliedRecord st d s .desk)
+pub applied-typed :
+    (st : Station) (d : Desk) (s : List ℕ) → TypedDesk d → Bytes s →
+    TypedDesk (appliedRecord st d s .desk)
 applied-typed st d s fits byte = go (eqb (appliedRecord st d s .code) 0) refl
   where
-    go : (b : Bool) → eqb (appliedRecord st d s .code) 0 ≡ b → TypedDesk (appliedRecord st d s .desk)
+    go :
+        (b : Bool) → eqb (appliedRecord st d s .code) 0 ≡ b →
+        TypedDesk (appliedRecord st d s .desk)
     go true p =
         let m = readRecord s .message in
+        let z = zoneAt d (m .zone) in
         let taken = hear-accepted st d (bytes s) (eqb-true (appliedRecord st d s .code) 0 p) in
-        let next = after-typed st (zoneAt d (m .zone)) m (read-typed s byte) (fits .each (m .zone)) (taken .checks) in
+        let next = after-typed st z m (read-typed s byte) (fits .each (m .zone)) (taken .checks) in
         rw (taken .desk)
         (record {
-          zones = length-set (d .zones) (m .zone) (zoneAfter (m .kind) (zoneAt d (m .zone)) m) ∙ fits .zones;
-          each = each-set (d .zones) (m .zone) (zoneAfter (m .kind) (zoneAt d (m .zone)) m) next (fits .each);
+          zones = length-set (d .zones) (m .zone) (zoneAfter (m .kind) z m) ∙ fits .zones;
+          each = each-set (d .zones) (m .zone) (zoneAfter (m .kind) z m) next (fits .each);
         })
     go false p = rw (same-state st d (bytes s) p) fits

@@ -1,5 +1,5 @@
--- A unit that hears records one by one, as a desk of the lists of hearings, so that demand 3 can be said of it; and the law that it gives
--- what replaying a journal gives.
+-- A unit that hears records one by one, as a desk of the lists of hearings, so that demand 3 can be
+-- said of it; and the law that it gives what replaying a journal gives.
 use mathlib.Core.Bool.{false}
 use mathlib.Core.List.{List, [], _∷_}
 use mathlib.Core.Path.{_≡_}
@@ -27,7 +27,8 @@ abbrev pub recordOf : Input → List ℕ
 recordOf (message m) = encoded m
 recordOf (bytes s) = s
 
--- the unit of a sheet: it starts from the fresh desk's bytes, and each record is heard by the bytes that the one before left
+-- the unit of a sheet: it starts from the fresh desk's bytes, and each record is heard by the bytes
+-- that the one before left
 abbrev pub unitOf : List ℕ → Model
 unitOf sheet = record {
   State = List ℕ;
@@ -47,28 +48,33 @@ abbrev pub IsRecord : Input → Type 0
 IsRecord (message m) = ⊥
 IsRecord (bytes s) = Bytes s
 
--- demand 3 of the unit: after every list of records that it has heard one by one, on every sheet that is accepted
+-- demand 3 of the unit: after every list of records that it has heard one by one, on every sheet
+-- that is accepted
 abbrev pub UnitDemand3 : Type 0
 UnitDemand3 =
     (sheet : List ℕ) → readSheet sheet .code ≡ 0 → (inputs : List Input) → Each IsRecord inputs
     → Holds (unitOf sheet) (readSheet sheet .station) inputs
 
--- The law of the unit, which `one-by-one` gives of a sheet and a journal that are accepted: the records of the journal, heard one by one,
--- get the answers that replaying stores; the bytes are then those of the desk after the journal; and the unit answers both questions
--- as they are answered after replaying.
+-- The law of the unit, which `one-by-one` gives of a sheet and a journal that are accepted: the
+-- records of the journal, heard one by one, get the answers that replaying stores; the bytes are
+-- then those of the desk after the journal; and the unit answers both questions as they are
+-- answered after replaying.
 pub record OneByOne (sheet journal : List ℕ) : Type 0 where
   pub replay :
       (buffer : List ℕ) → ltb (length buffer) (answerPlace (counted journal)) ≡ false
-      → let heard = answers (unitOf sheet) (readSheet sheet .station) (unitOf sheet .fresh) (inputsOf journal) in
+      → let heard =
+      answers (unitOf sheet) (readSheet sheet .station) (unitOf sheet .fresh) (inputsOf journal) in
       replayed sheet journal buffer ≡ record { code = 0; bytes = storedFrom buffer 0 heard }
   pub desk :
       after (unitOf sheet) (readSheet sheet .station) (unitOf sheet .fresh) (inputsOf journal)
       ≡ deskBytes (after ours (readSheet sheet .station) (ours .fresh) (inputsOf journal))
   pub movement :
       (zone train : ℕ)
-      → let last = after (unitOf sheet) (readSheet sheet .station) (unitOf sheet .fresh) (inputsOf journal) in
+      → let last =
+      after (unitOf sheet) (readSheet sheet .station) (unitOf sheet .fresh) (inputsOf journal) in
       unitMovement sheet last zone train ≡ movementReplayed sheet journal zone train
   pub work :
       (turnout : ℕ)
-      → let last = after (unitOf sheet) (readSheet sheet .station) (unitOf sheet .fresh) (inputsOf journal) in
+      → let last =
+      after (unitOf sheet) (readSheet sheet .station) (unitOf sheet .fresh) (inputsOf journal) in
       unitWork sheet last turnout ≡ workReplayed sheet journal turnout

@@ -1,6 +1,7 @@
--- A unit: a desk kept in 520 bytes that the caller lends at each call. A record or a question is refused by the sheet's number, then by
--- 61 for bytes that no desk encodes to (also bytes of another length), then as the desk refuses it; a fresh desk by 61 for a buffer of
--- another length. A refusal leaves the bytes as they were, and has 0 minutes.
+-- A unit: a desk kept in 520 bytes that the caller lends at each call. A record or a question is
+-- refused by the sheet's number, then by 61 for bytes that no desk encodes to (also bytes of
+-- another length), then as the desk refuses it; a fresh desk by 61 for a buffer of another length.
+-- A refusal leaves the bytes as they were, and has 0 minutes.
 use mathlib.Core.Bool.{cond, false}
 use mathlib.Core.List.{List}
 use Prim.Native.Nat.{ℕ}
@@ -20,7 +21,9 @@ use Rattle.packed.specs.Packed.{answerPacked}
 -- the fresh desk in a buffer of its length
 unfoldable pub unitFresh : List ℕ → WriteAnswer
 unitFresh desk =
-    cond (eqb (length desk) 520) (record { code = 0; bytes = deskBytes freshDesk }) (record { code = 61; bytes = desk })
+    cond (eqb (length desk) 520)
+    (record { code = 0; bytes = deskBytes freshDesk })
+    (record { code = 61; bytes = desk })
 
 -- the sheet's number, then 61 for bytes that are no desk's; 0 where both are good
 abbrev pub startNumber : ℕ → List ℕ → ℕ
@@ -55,7 +58,9 @@ stored desk a =
 unfoldable pub unitApplied : List ℕ → List ℕ → List ℕ → UnitAnswer
 unitApplied sheet desk bytes =
     let at = started sheet desk in
-    cond (eqb (at .code) 0) (stored desk (appliedRecord (at .station) (deskIn desk) bytes)) (refusedUnit desk (at .code))
+    cond (eqb (at .code) 0)
+    (stored desk (appliedRecord (at .station) (deskIn desk) bytes))
+    (refusedUnit desk (at .code))
 
 -- the same as the call gives it: the code and the minutes in one number, and the desk's bytes
 pub record UnitCall : Type 0 where
@@ -69,9 +74,13 @@ called a = record { answer = answerPacked (a .code) (a .minutes); bytes = a .byt
 unfoldable pub unitMovement : List ℕ → List ℕ → ℕ → ℕ → MovementAnswer
 unitMovement sheet desk zone train =
     let at = started sheet desk in
-    cond (eqb (at .code) 0) (movementAnswered (at .station) (deskIn desk) zone train) (movementRefused (at .code))
+    cond (eqb (at .code) 0)
+    (movementAnswered (at .station) (deskIn desk) zone train)
+    (movementRefused (at .code))
 
 unfoldable pub unitWork : List ℕ → List ℕ → ℕ → WorkAnswer
 unitWork sheet desk turnout =
     let at = started sheet desk in
-    cond (eqb (at .code) 0) (workAnswered (at .station) (deskIn desk) turnout) (record { code = at .code; yes = false })
+    cond (eqb (at .code) 0)
+    (workAnswered (at .station) (deskIn desk) turnout)
+    (record { code = at .code; yes = false })

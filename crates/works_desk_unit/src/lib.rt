@@ -1,7 +1,8 @@
-// The unit: a desk kept in 520 bytes by the caller, for firmware in C or Rust that hears one record at a time. A byte slice goes as a
-// pointer and a length. The rules are in specs/Unit.antt, the desk's bytes in the crate `desk_bytes`. Every function takes any bytes and
-// any numbers. proofs/OneByOne.antt has that records heard one by one get what replaying them gives, proofs/Demand3.antt that demand 3
-// holds of them, proofs/Calls.antt that the numbers which the calls return show it.
+// The unit: a desk kept in 520 bytes by the caller, for firmware in C or Rust that hears one record at a time. A byte
+// slice goes as a pointer and a length. The rules are in specs/Unit.antt, the desk's bytes in the crate `desk_bytes`.
+// Every function takes any bytes and any numbers. proofs/OneByOne.antt has that records heard one by one get what
+// replaying them gives, proofs/Demand3.antt that demand 3 holds of them, proofs/Calls.antt that the numbers which the
+// calls return show it.
 ghost use mathlib.Core.Path.{_≡_};
 ghost use Rattle.packed.specs.Packed.{movementPacked, workPacked};
 ghost use Rattle.works_desk_unit.specs.Unit.{unitFresh, startNumber, unitApplied, called, unitMovement, unitWork};
@@ -51,9 +52,13 @@ fn start_code(code: u8, desk: &[u8]) -> u8
     0
 }
 
-// Hears a record; where it is accepted, stores its zone then. Refused by the sheet's number, by 61, then as the desk refuses the record.
+// Hears a record; where it is accepted, stores its zone then. Refused by the sheet's number, by 61, then as the desk
+// refuses the record.
 fn apply(sheet: &[u8], desk: &mut [u8], record: &[u8]) -> Reply
-    ensures { λ r. ⌜ record { code = r .code; minutes = r .minutes; bytes = now (desk .exit) } ≡ unitApplied (now (sheet .entry)) (now (desk .entry)) (now («record» .entry)) ⌝ }
+    ensures { λ r. ⌜
+        record { code = r .code; minutes = r .minutes; bytes = now (desk .exit) }
+        ≡ unitApplied (now (sheet .entry)) (now (desk .entry)) (now («record» .entry))
+        ⌝ }
 {
     let read = sheet::read_sheet(sheet);
     let start = start_code(read.code, desk);
@@ -80,7 +85,10 @@ fn apply(sheet: &[u8], desk: &mut [u8], record: &[u8]) -> Reply
 // Hears a record: the code in the lowest byte, the minutes above it.
 #[no_mangle]
 pub extern "C" fn unit_apply(sheet: &[u8], desk: &mut [u8], record: &[u8]) -> u64
-    ensures { λ r. ⌜ record { answer = r; bytes = now (desk .exit) } ≡ called (unitApplied (now (sheet .entry)) (now (desk .entry)) (now («record» .entry))) ⌝ }
+    ensures { λ r. ⌜
+        record { answer = r; bytes = now (desk .exit) }
+        ≡ called (unitApplied (now (sheet .entry)) (now (desk .entry)) (now («record» .entry)))
+        ⌝ }
 {
     let a = apply(sheet, desk, record);
     packed::answer_packed(a.code, a.minutes)

@@ -9,7 +9,8 @@ use Rattle.zone.specs.Movement.{isStanding, underTrain}
 use Rattle.zone.specs.Trains.{movementUnder, placed, changed}
 
 -- a movement found under a train is the zone's, and is under that train
-pub found-under : (z : Zone) (x : ℕ) → isStanding (movementUnder z x) ≡ true → underTrain (z .movement) x ≡ true
+pub found-under :
+    (z : Zone) (x : ℕ) → isStanding (movementUnder z x) ≡ true → underTrain (z .movement) x ≡ true
 unfolding movementUnder
 found-under z x stands = go (underTrain (z .movement) x) stands
   where
@@ -21,7 +22,8 @@ pub found : (z : Zone) (x : ℕ) → underTrain (z .movement) x ≡ true → mov
 unfolding movementUnder
 found z x under = rw under
 
--- what holds of the zone's movement holds after an effect, where it holds of the new one, and of what is found under a train
+-- what holds of the zone's movement holds after an effect, where it holds of the new one, and of
+-- what is found under a train
 either : (P : Movement → Type 0) (b : Bool) {u v : Movement} → P u → P v → P (cond b u v)
 either P true old new = old
 either P false old new = new
@@ -30,10 +32,13 @@ pub every-placed : (P : Movement → Type 0) (u v : Movement) → P u → P v �
 unfolding placed
 every-placed P u v old new = either P (isStanding u) old new
 
-pub every-changed : (P : Movement → Type 0) (u : Movement) (x : ℕ) (v : Movement) → P u → P v → P (changed u x v)
+pub every-changed :
+    (P : Movement → Type 0) (u : Movement) (x : ℕ) (v : Movement) → P u → P v → P (changed u x v)
 unfolding changed
 every-changed P u x v old new = either P (underTrain u x) new old
 
-pub every-under : (P : Movement → Type 0) (z : Zone) (x : ℕ) → P NoMovement → P (z .movement) → P (movementUnder z x)
+pub every-under :
+    (P : Movement → Type 0) (z : Zone) (x : ℕ) → P NoMovement → P (z .movement) →
+    P (movementUnder z x)
 unfolding movementUnder
 every-under P z x none old = either P (underTrain (z .movement) x) old none

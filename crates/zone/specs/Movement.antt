@@ -1,5 +1,5 @@
--- A movement: none, or one that stands; what it says, and what the kinds do to it. Nothing else but its encoding in bytes looks into a
--- movement.
+-- A movement: none, or one that stands; what it says, and what the kinds do to it. Nothing else but
+-- its encoding in bytes looks into a movement.
 use mathlib.Core.Bool.{Bool, true, false, cond, not, _&&_}
 use Prim.Native.Nat.{ℕ}
 use lib.Dec.{eqb}
@@ -66,10 +66,12 @@ workedTurnouts r w = bitAnd (namedBy r) (agreedSet w)
 abbrev pub lackingOn : Route → Work → Movement → ℕ
 lackingOn r w v = without (workedTurnouts r w) (clearedSet v)
 
--- "Regime: of the route's turnouts under agreed work, held if one lacks a clearance, else clear if all carry 1 or 2, else danger."
+-- "Regime: of the route's turnouts under agreed work, held if one lacks a clearance, else clear if
+-- all carry 1 or 2, else danger."
 unfoldable pub regimeOn : Route → Work → Movement → Regime
 regimeOn r w v =
-    cond (not (isEmpty (lackingOn r w v))) Held (cond (within (workedTurnouts r w) (efficientSet v)) Clear Danger)
+    cond (not (isEmpty (lackingOn r w v))) Held
+    (cond (within (workedTurnouts r w) (efficientSet v)) Clear Danger)
 
 -- the same of a movement, on its own route
 abbrev pub lacking : Station → Work → Movement → ℕ
@@ -94,7 +96,8 @@ orderRefused order regime = cond (eqb order 1) (not (isClear regime)) (isHeld re
 
 -- 5: "movement asked"
 abbrev pub movementFor : ℕ → ℕ → Movement
-movementFor train route = Standing (record { train = train; route = route; order = 0; cleared = 0; efficient = 0 })
+movementFor train route =
+    Standing (record { train = train; route = route; order = 0; cleared = 0; efficient = 0 })
 
 -- 6: "cleared"; efficient or not as the declaration says
 abbrev pub clearedAt : Movement → ℕ → Bool → Movement

@@ -1,5 +1,6 @@
--- The movements of a zone, by train: what the rules, the kinds and the questions ask of them. Document 01 has "one movement" in a zone; of
--- the rules only these definitions know that there is one place.
+-- The movements of a zone, by train: what the rules, the kinds and the questions ask of them.
+-- Document 01 has "one movement" in a zone; of the rules only these definitions know that there is
+-- one place.
 use mathlib.Core.Bool.{Bool, cond}
 use Prim.Native.Nat.{ℕ}
 use Rattle.station.specs.declared.Station.{Station}
@@ -30,7 +31,12 @@ placed u v = cond (isStanding u) u v
 
 -- 5: the zone with one more movement, where there is a place for it
 abbrev pub withMovement : Zone → Movement → Zone
-withMovement z v = record { work = z .work; movement = placed (z .movement) v; recorder = z .recorder; time = z .time }
+withMovement z v = record {
+  work = z .work;
+  movement = placed (z .movement) v;
+  recorder = z .recorder;
+  time = z .time;
+}
 
 -- what the place holds once the movement under this train becomes another, or none
 unfoldable pub changed : Movement → ℕ → Movement → Movement
@@ -38,4 +44,9 @@ changed u train v = cond (underTrain u train) v u
 
 -- 6 to 9: the zone with another movement, or none, in the place of the one under this train
 abbrev pub changedUnder : Zone → ℕ → Movement → Zone
-changedUnder z train v = record { work = z .work; movement = changed (z .movement) train v; recorder = z .recorder; time = z .time }
+changedUnder z train v = record {
+  work = z .work;
+  movement = changed (z .movement) train v;
+  recorder = z .recorder;
+  time = z .time;
+}

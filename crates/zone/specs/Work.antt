@@ -57,7 +57,8 @@ agreedAt NoWork = 0
 agreedAt (Asked q) = 0
 agreedAt (Agreed g) = g .since
 
--- "whole minutes since agreement, seconds divided by 60 and cut"; "an agreement later than the restoration gives 0 minutes"
+-- "whole minutes since agreement, seconds divided by 60 and cut"; "an agreement later than the
+-- restoration gives 0 minutes"
 unfoldable pub minutesBetween : ℕ → ℕ → ℕ
 minutesBetween since now = (now - since) / 60
 
@@ -68,12 +69,14 @@ askedFor form manner set = Asked (record { form = form; manner = manner; set = s
 -- 2: "agreed, at this time"; nothing is open yet
 abbrev pub agreedFrom : Work → ℕ → Work
 agreedFrom NoWork time = NoWork
-agreedFrom (Asked q) time = Agreed (record { form = q .form; manner = q .manner; set = q .set; since = time; opened = 0 })
+agreedFrom (Asked q) time =
+    Agreed (record { form = q .form; manner = q .manner; set = q .set; since = time; opened = 0 })
 agreedFrom (Agreed g) time = Agreed g
 
 -- an agreement with other turnouts under work, and others open
 abbrev pub withSets : Agreement → ℕ → ℕ → Agreement
-withSets g set opened = record { form = g .form; manner = g .manner; set = set; since = g .since; opened = opened }
+withSets g set opened =
+    record { form = g .form; manner = g .manner; set = set; since = g .since; opened = opened }
 
 -- 4: "a, b open to work"
 abbrev pub openedTo : Work → ℕ → Work

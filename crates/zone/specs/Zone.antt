@@ -1,6 +1,6 @@
--- The state of a zone as a whole, and its answer to a message. "Each zone holds its work (none, asked or agreed), one movement, its
--- recorder, its last accepted time." The rules read its work and its
--- movements by observers alone; its encoding in bytes reads the fields.
+-- The state of a zone as a whole, and its answer to a message. "Each zone holds its work (none,
+-- asked or agreed), one movement, its recorder, its last accepted time." The rules read its work
+-- and its movements by observers alone; its encoding in bytes reads the fields.
 use mathlib.Core.Bool.{Bool, true, false, cond}
 use Prim.Native.Nat.{ℕ}
 use lib.Dec.{eqb}
@@ -24,7 +24,8 @@ workOf z = z .work
 
 -- the zone with other work, another recorder and another time; its movements stay
 abbrev pub nextZone : Zone → Work → Bool → ℕ → Zone
-nextZone z w working time = record { work = w; movement = z .movement; recorder = working; time = time }
+nextZone z w working time =
+    record { work = w; movement = z .movement; recorder = working; time = time }
 
 -- the zone with other work, at a time
 abbrev pub withWork : Zone → Work → ℕ → Zone
@@ -42,7 +43,8 @@ withRecorder z working time = nextZone z (z .work) working time
 abbrev pub refusedIn : Zone → ℕ → Answer
 refusedIn z number = record { code = number; minutes = 0; zone = z }
 
--- the answer of a code: 0 gives the next zone and its minutes, any other the zone as it was and 0 minutes
+-- the answer of a code: 0 gives the next zone and its minutes, any other the zone as it was and 0
+-- minutes
 abbrev pub settled : Zone → ℕ → ℕ → Zone → Answer
 settled z number minutes next =
     cond (eqb number 0) (record { code = 0; minutes = minutes; zone = next }) (refusedIn z number)

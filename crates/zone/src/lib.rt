@@ -1,6 +1,6 @@
-// The state of one zone of the works desk: its work, its movement, its recorder, its last accepted time; what they say, and what
-// messages do to them. The rules are in specs/: Work.antt, Movement.antt, Trains.antt (movements by train) and Zone.antt.
-// Every function takes any value, also one that no desk gave.
+// The state of one zone of the works desk: its work, its movement, its recorder, its last accepted time; what they
+// say, and what messages do to them. The rules are in specs/: Work.antt, Movement.antt, Trains.antt (movements by
+// train) and Zone.antt. Every function takes any value, also one that no desk gave.
 ghost use mathlib.Core.Path.{_≡_};
 ghost use Rattle.zone.specs.Zone.{freshZone, workOf, withWork, atTime, withRecorder, refusedIn, settled};
 
@@ -31,8 +31,8 @@ pub enum Work {
     Agreed(Agreement),
 }
 
-// A movement that stands: its train, its route, the order given (0 none, 1 clear, 2 danger), the turnouts cleared for it and
-// those of them whose declaration means all efficient.
+// A movement that stands: its train, its route, the order given (0 none, 1 clear, 2 danger), the turnouts cleared for
+// it and those of them whose declaration means all efficient.
 pub struct Passage {
     pub cleared: u64,
     pub efficient: u64,

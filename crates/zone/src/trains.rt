@@ -1,6 +1,13 @@
 // The movements of a zone, by train: what they say, and what messages do to them. A zone has one place for a movement.
 ghost use mathlib.Core.Path.{_≡_};
-ghost use Rattle.zone.specs.Trains.{movementUnder, noPlace, namedStanding, clearedStanding, withMovement, changedUnder};
+ghost use Rattle.zone.specs.Trains.{
+  movementUnder,
+  noPlace,
+  namedStanding,
+  clearedStanding,
+  withMovement,
+  changedUnder,
+};
 use super::Movement;
 use super::Zone;
 use super::movements::cleared_set;

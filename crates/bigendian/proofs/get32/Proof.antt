@@ -15,7 +15,8 @@ returns c =
 returns-2 : tie.Need-returns-2
 returns-2 c =
     let a = c .before .before .before .before .args in
-    ap₂ (λ (high low : ℕ). high * 65536 + low) (c .before .get16 .ensures) (c .get162 .ensures) ∙ sym (number-add 2 2 (now (a .s)) (a .at))
+    ap₂ (λ (high low : ℕ). high * 65536 + low) (c .before .get16 .ensures) (c .get162 .ensures)
+    ∙ sym (number-add 2 2 (now (a .s)) (a .at))
 
 pub get32-spec : {M : Type 1} → statement M
 get32-spec =

@@ -15,7 +15,8 @@ returns c =
 returns-2 : tie.Need-returns-2
 returns-2 c =
     let a = c .before .before .before .before .args in
-    ap₂ (λ (high low : ℕ). high * 4294967296 + low) (c .before .get32 .ensures) (c .get322 .ensures) ∙ sym (number-add 4 4 (now (a .s)) (a .at))
+    ap₂ (λ (high low : ℕ). high * 4294967296 + low) (c .before .get32 .ensures) (c .get322 .ensures)
+    ∙ sym (number-add 4 4 (now (a .s)) (a .at))
 
 pub get64-spec : {M : Type 1} → statement M
 get64-spec =

@@ -19,10 +19,13 @@ returns c =
 
 returns-2 : tie.Need-returns-2
 returns-2 c =
-    let a = c .before .before .before .before .before .before .before .before .before .before .args in
+    let a =
+    c .before .before .before .before .before .before .before .before .before .before .args in
     let high : a .n / 256 % 256 ≡ a .n / 256 = omega arith in
     rw (high, div-one, ← add-one (a .at))
-    (c .before .before .put82 .ensures ∙ ap (λ (l : List ℕ). set l (a .at + 1) (a .n % 256)) (c .before .before .before .before .before .before .put8 .ensures))
+    (c .before .before .put82 .ensures
+    ∙ ap (λ (l : List ℕ). set l (a .at + 1) (a .n % 256))
+    (c .before .before .before .before .before .before .put8 .ensures))
 
 pub put16-spec : {M : Type 1} → statement M
 put16-spec =

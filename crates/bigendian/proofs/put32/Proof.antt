@@ -16,8 +16,12 @@ returns c =
 
 returns-2 : tie.Need-returns-2
 returns-2 c =
-    let a = c .before .before .before .before .before .before .before .before .before .before .args in
-    c .before .before .put162 .ensures ∙ ap (λ (l : List ℕ). storedAt 2 l (a .at + 2) (a .n % 65536)) (c .before .before .before .before .before .before .put16 .ensures) ∙ sym (stored-add 2 2 (now (a .s)) (a .at) (a .n))
+    let a =
+    c .before .before .before .before .before .before .before .before .before .before .args in
+    c .before .before .put162 .ensures
+    ∙ ap (λ (l : List ℕ). storedAt 2 l (a .at + 2) (a .n % 65536))
+    (c .before .before .before .before .before .before .put16 .ensures)
+    ∙ sym (stored-add 2 2 (now (a .s)) (a .at) (a .n))
 
 pub put32-spec : {M : Type 1} → statement M
 put32-spec =

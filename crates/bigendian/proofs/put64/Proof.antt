@@ -16,8 +16,12 @@ returns c =
 
 returns-2 : tie.Need-returns-2
 returns-2 c =
-    let a = c .before .before .before .before .before .before .before .before .before .before .args in
-    c .before .before .put322 .ensures ∙ ap (λ (l : List ℕ). storedAt 4 l (a .at + 4) (a .n % 4294967296)) (c .before .before .before .before .before .before .put32 .ensures) ∙ sym (stored-add 4 4 (now (a .s)) (a .at) (a .n))
+    let a =
+    c .before .before .before .before .before .before .before .before .before .before .args in
+    c .before .before .put322 .ensures
+    ∙ ap (λ (l : List ℕ). storedAt 4 l (a .at + 4) (a .n % 4294967296))
+    (c .before .before .before .before .before .before .put32 .ensures)
+    ∙ sym (stored-add 4 4 (now (a .s)) (a .at) (a .n))
 
 pub put64-spec : {M : Type 1} → statement M
 put64-spec =

@@ -9,7 +9,8 @@ use Rattle.case_rows.proofs.after_line.Statement.{statement}
 use Rattle.case_rows.proofs.after_line.Tie as tie
 
 abbrev Inv-loop : tie.InvT-loop
-Inv-loop text at next₀ i₀ next i = repeated 200 (towardsEnd text) at ≡ repeated (200 - i) (towardsEnd text) next
+Inv-loop text at next₀ i₀ next i =
+    repeated 200 (towardsEnd text) at ≡ repeated (200 - i) (towardsEnd text) next
 
 abbrev μ-loop : tie.MeasureT-loop
 μ-loop text at next₀ i₀ next i = 200 - i
@@ -21,14 +22,16 @@ loop-again : tie.Need-loop-again Inv-loop μ-loop
 loop-again c =
     let l = c .before .before .loop in
     let text = now (c .before .before .before .before .args .text) in
-    next-step (towardsEnd text) 200 (l .i) (l .inv) (c .before .loop-test .taken) (c .towards-end .ensures)
+    next-step (towardsEnd text) 200 (l .i) (l .inv)
+    (c .before .loop-test .taken) (c .towards-end .ensures)
 
 returns : tie.Need-returns Inv-loop μ-loop
 unfolding afterLine
 returns c =
     let l = c .before .before .loop in
     let text = now (c .before .before .before .before .args .text) in
-    c .after .ensures ∙ ap after (last-step (towardsEnd text) 200 (l .i) (l .inv) (c .before .loop-test .left))
+    c .after .ensures
+    ∙ ap after (last-step (towardsEnd text) 200 (l .i) (l .inv) (c .before .loop-test .left))
 
 pub after-line-spec : {M : Type 1} → statement M
 after-line-spec =

@@ -22,7 +22,8 @@ loop-again : tie.Need-loop-again Inv-loop μ-loop
 loop-again c =
     let l = c .before .before .loop in
     let text = now (c .before .before .before .before .args .text) in
-    next-step (afterLetter text) 40 (l .i) (l .inv) (c .before .loop-test .taken) (c .after-letter .ensures)
+    next-step (afterLetter text) 40 (l .i) (l .inv)
+    (c .before .loop-test .taken) (c .after-letter .ensures)
 
 returns : tie.Need-returns Inv-loop μ-loop
 returns c =
@@ -33,4 +34,12 @@ returns c =
 pub after-name-spec : {M : Type 1} → statement M
 after-name-spec =
     tie.close
-    (tie.spec Inv-loop μ-loop loop-holds (λ c κs. search needs) (λ c. search needs) (λ c. search needs) loop-again returns)
+    (tie.spec
+    Inv-loop
+    μ-loop
+    loop-holds
+    (λ c κs. search needs)
+    (λ c. search needs)
+    (λ c. search needs)
+    loop-again
+    returns)

@@ -15,14 +15,21 @@ unfolding nameAt
 returns c =
     let a = c .before .before .before .args in
     let past : length (now (a .text)) ≤ a .at = omega arith in
-    rw (drop-of-length-le (now (a .text)) past, take-nil (afterName (now (a .text)) (a .at) - a .at))
+    rw (
+      drop-of-length-le (now (a .text)) past,
+      take-nil (afterName (now (a .text)) (a .at) - a .at),
+    )
 
 -- the name does not end before its place, nor past the end of the text
-inside : (c : tie.After-after-name) → (c .before .before .before .args .at ≤ c .after-name .result) × (c .after-name .result ≤ length (now (c .before .before .before .args .text)))
+inside :
+    (c : tie.After-after-name) →
+    (c .before .before .before .args .at ≤ c .after-name .result)
+    × (c .after-name .result ≤ length (now (c .before .before .before .args .text)))
 unfolding afterName
 inside c =
     let a = c .before .before .before .args in
-    rw (c .after-name .ensures) (name-within 40 (now (a .text)) (a .at) (search needs) (c .before .if1 .left))
+    rw (c .after-name .ensures)
+    (name-within 40 (now (a .text)) (a .at) (search needs) (c .before .if1 .left))
 
 returns-2 : tie.Need-returns-2
 unfolding nameAt

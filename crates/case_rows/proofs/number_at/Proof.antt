@@ -22,7 +22,8 @@ loop-again : tie.Need-loop-again Inv-loop μ-loop
 loop-again c =
     let l = c .before .before .loop in
     let text = now (c .before .before .before .before .before .args .text) in
-    next-step (withDigit text) 4 (l .i) (l .inv) (c .before .loop-test .taken) (c .with-digit .ensures)
+    next-step (withDigit text) 4 (l .i) (l .inv)
+    (c .before .loop-test .taken) (c .with-digit .ensures)
 
 returns : tie.Need-returns Inv-loop μ-loop
 returns c =

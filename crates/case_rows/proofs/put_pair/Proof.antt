@@ -16,7 +16,13 @@ unfolding withPair
 returns-2 c =
     let c1 = c .before .before .before .before .before .before in
     let b = c1 .before .before .before .byte-at in
-    rw (← b .ensures, eq-eqb (b .result) 32 (c1 .before .before .if1 .left), ← c1 .before .number-at .ensures, ← c1 .number-at2 .ensures, c .before .before .put .ensures)
+    rw (
+      ← b .ensures,
+      eq-eqb (b .result) 32 (c1 .before .before .if1 .left),
+      ← c1 .before .number-at .ensures,
+      ← c1 .number-at2 .ensures,
+      c .before .before .put .ensures,
+    )
 
 pub put-pair-spec : {M : Type 1} → statement M
 put-pair-spec =

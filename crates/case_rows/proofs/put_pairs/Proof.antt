@@ -11,7 +11,9 @@ use Rattle.case_rows.proofs.put_pairs.Tie as tie
 
 abbrev Inv-loop : tie.InvT-loop
 Inv-loop s₀ input at next₀ i₀ s next i =
-    (length s ≡ length s₀) × (withPairs s₀ input at ≡ repeated (16 - i) (withPair input) (record { place = next; bytes = s }))
+    (length s ≡ length s₀)
+    × (withPairs s₀ input at
+    ≡ repeated (16 - i) (withPair input) (record { place = next; bytes = s }))
 
 abbrev μ-loop : tie.MeasureT-loop
 μ-loop s₀ input at next₀ i₀ s next i = 16 - i
@@ -25,7 +27,9 @@ loop-again c =
     let c1 = c .before .before in
     let l = c1 .before .before .before .loop in
     let input = now (c1 .before .before .before .before .before .before .args .input) in
-    (search needs, next-step (withPair input) 16 (l .i) (l .inv .1) (c1 .before .before .loop-test .taken) (c1 .put-pair .ensures))
+    let more = c1 .before .before .loop-test .taken in
+    let pair = c1 .put-pair .ensures in
+    (search needs, next-step (withPair input) 16 (l .i) (l .inv .1) more pair)
 
 returns : tie.Need-returns Inv-loop μ-loop
 returns c =

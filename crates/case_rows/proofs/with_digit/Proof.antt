@@ -15,13 +15,22 @@ returns-2 : tie.Need-returns-2
 unfolding withDigit
 returns-2 c =
     let b = c .before .before .byte-at in
-    rw (← b .ensures, le-ltb (b .result) 48 (c .before .if1 .left), lt-ltb 57 (b .result) (c .if2 .taken))
+    rw (
+      ← b .ensures,
+      le-ltb (b .result) 48 (c .before .if1 .left),
+      lt-ltb 57 (b .result) (c .if2 .taken),
+    )
 
 returns-3 : tie.Need-returns-3
 unfolding withDigit
 returns-3 c =
     let b = c .before .before .before .before .byte-at in
-    rw (← b .ensures, le-ltb (b .result) 48 (c .before .before .before .if1 .left), le-ltb 57 (b .result) (c .before .before .if2 .left), c .after .ensures)
+    rw (
+      ← b .ensures,
+      le-ltb (b .result) 48 (c .before .before .before .if1 .left),
+      le-ltb 57 (b .result) (c .before .before .if2 .left),
+      c .after .ensures,
+    )
 
 pub with-digit-spec : {M : Type 1} → statement M
 with-digit-spec =

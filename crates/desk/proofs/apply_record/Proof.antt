@@ -13,15 +13,23 @@ unfolding appliedRecord
 returns c =
     let told = c .before .before .enum-told .given in
     let s = now (c .before .before .before .before .before .before .args .s) in
-    let answer : refused (told .0 .0) ≡ readRecord s = sym (ap readingOf (told .1)) ∙ c .before .before .before .before .read-record .ensures in
-    rw (c .refused .ensures, c .before .reading-code .ensures, told .1, ← answer, ne-eqb (told .0 .0) 0 (refused-by s (told .0 .0) answer))
+    let answer : refused (told .0 .0) ≡ readRecord s =
+    sym (ap readingOf (told .1)) ∙ c .before .before .before .before .read-record .ensures in
+    rw (
+      c .refused .ensures,
+      c .before .reading-code .ensures,
+      told .1,
+      ← answer,
+      ne-eqb (told .0 .0) 0 (refused-by s (told .0 .0) answer),
+    )
 
 returns-2 : tie.Need-returns-2
 unfolding appliedRecord
 returns-2 c =
     let told = c .before .before .reading .given in
     let s = now (c .before .before .before .before .before .before .args .s) in
-    let answer : accepted (told .0 .0) ≡ readRecord s = sym (ap readingOf (told .1)) ∙ c .before .before .before .before .read-record .ensures in
+    let answer : accepted (told .0 .0) ≡ readRecord s =
+    sym (ap readingOf (told .1)) ∙ c .before .before .before .before .read-record .ensures in
     rw (c .reach .ensures, ← answer)
 
 pub apply-record-spec : {M : Type 1} → statement M

@@ -11,4 +11,5 @@ returns-2 c =
     rw (← c .before .before .is-empty .ensures, c .before .if1 .left, c .lowest-of .ensures)
 
 pub lowest-of-spec : {M : Type 1} → statement M
-lowest-of-spec = tie.close (tie.spec (λ c κs. search needs) returns (λ c κs. search needs) returns-2)
+lowest-of-spec =
+    tie.close (tie.spec (λ c κs. search needs) returns (λ c κs. search needs) returns-2)

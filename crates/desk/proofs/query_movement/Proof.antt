@@ -7,12 +7,24 @@ use Rattle.desk.proofs.query_movement.Tie as tie
 returns : tie.Need-returns
 unfolding movementAnswered
 returns c =
-    rw (c .movement-refused .ensures, ← c .before .before .zone-count .ensures, le-ltb (c .before .before .before .args .zone) (c .before .before .zone-count .result) (c .before .if1 .taken))
+    let count = c .before .before .zone-count in
+    let n = c .before .before .before .args .zone in
+    rw (
+      c .movement-refused .ensures,
+      ← count .ensures,
+      le-ltb n (count .result) (c .before .if1 .taken),
+    )
 
 returns-2 : tie.Need-returns-2
 unfolding movementAnswered
 returns-2 c =
-    rw (c .movement-in .ensures, ← c .before .before .before .zone-count .ensures, lt-ltb (c .before .before .before .before .args .zone) (c .before .before .before .zone-count .result) (c .before .before .if1 .left))
+    let count = c .before .before .before .zone-count in
+    let n = c .before .before .before .before .args .zone in
+    rw (
+      c .movement-in .ensures,
+      ← count .ensures,
+      lt-ltb n (count .result) (c .before .before .if1 .left),
+    )
 
 pub query-movement-spec : {M : Type 1} → statement M
 query-movement-spec =

@@ -30,15 +30,17 @@ returns-3 : tie.Need-returns-3
 unfolding workAnswered
 returns-3 c =
     let count = c .before .before .before .before .before .before .before .before .turnout-count in
-    let n = c .before .before .before .before .before .before .before .before .before .args .turnout in
+    let n =
+    c .before .before .before .before .before .before .before .before .before .args .turnout in
     let zone = c .before .before .before .before .before .before .zone-of in
     let zones = c .before .before .before .before .before .zone-count in
+    let known = c .before .before .before .before .before .before .before .if1 in
     rw (
       c .contains .ensures,
       c .before .open-set .ensures,
       c .before .before .work-of .ensures,
       ← count .ensures,
-      lt-ltb n (count .result) (c .before .before .before .before .before .before .before .if1 .left),
+      lt-ltb n (count .result) (known .left),
       ← zone .ensures,
       ← zones .ensures,
       lt-ltb (zone .result) (zones .result) (c .before .before .before .before .if2 .left),

@@ -16,8 +16,10 @@ returns-2 : tie.Need-returns-2
 unfolding zonePlace
 returns-2 c =
     let n = c .before .zone-count in
-    let m = c .before .before .before .args .m in
-    (rw (← n .ensures, lt-ltb (m .zone) (n .result) (c .if1 .left)), omega (arith, c .if1 .left, n .ensures))
+    let m = c .before .before .before .args .m in (
+      rw (← n .ensures, lt-ltb (m .zone) (n .result) (c .if1 .left)),
+      omega (arith, c .if1 .left, n .ensures),
+    )
 
 pub zone-place-spec : {M : Type 1} → statement M
 zone-place-spec = tie.close (tie.spec (λ c. search needs) (λ c κs. search needs) returns returns-2)

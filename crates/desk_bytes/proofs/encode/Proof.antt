@@ -13,7 +13,10 @@ returns c =
     let c2 = c .before .before in
     let c1 = c2 .before .before .before .before in
     let a = c1 .before .before .before .args in
-    part-then headBytes (zonesFrom (a .d) 0 8) (now (a .s)) 0 8 refl (c1 .put-head .ensures) (c2 .put-zones .ensures)
+    part-then headBytes (zonesFrom (a .d) 0 8) (now (a .s)) 0 8 refl
+    (c1 .put-head .ensures)
+    (c2 .put-zones .ensures)
 
 pub encode-spec : {M : Type 1} → statement M
-encode-spec = tie.close (tie.spec (λ c κs. search needs) (λ c κs. search needs) (λ c. search needs) returns)
+encode-spec =
+    tie.close (tie.spec (λ c κs. search needs) (λ c κs. search needs) (λ c. search needs) returns)

@@ -16,7 +16,10 @@ returns c =
     let a = replays .before .before .before .before .before .args in
     let text-of : WriteAnswer → Filled =
     λ x. putAll (now (a .out)) 0 (textOf (x .code) (x .bytes) (counted (now (a .journal)))) in
-    rw (c .before .before .text .ensures, counts .count .ensures) (ap text-of (replays .replay .ensures))
+    rw (
+      c .before .before .text .ensures,
+      counts .count .ensures,
+    ) (ap text-of (replays .replay .ensures))
 
 pub put-text-spec : {M : Type 1} → statement M
 put-text-spec =

@@ -13,4 +13,10 @@ returns c =
     )
 
 pub withdrawn-spec : {M : Type 1} → statement M
-withdrawn-spec = tie.close (tie.spec (λ c κs. search needs) (λ c κs. search needs) (λ c κs. search needs) returns)
+withdrawn-spec =
+    tie.close
+    (tie.spec
+    (λ c κs. search needs)
+    (λ c κs. search needs)
+    (λ c κs. search needs)
+    returns)

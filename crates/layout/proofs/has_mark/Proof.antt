@@ -11,4 +11,10 @@ returns c =
     )
 
 pub has-mark-spec : {M : Type 1} → statement M
-has-mark-spec = tie.close (tie.spec (λ c κs. search needs) (λ c κs. search needs) (λ c κs. search needs) returns)
+has-mark-spec =
+    tie.close
+    (tie.spec
+    (λ c κs. search needs)
+    (λ c κs. search needs)
+    (λ c κs. search needs)
+    returns)

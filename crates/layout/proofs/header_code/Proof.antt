@@ -6,20 +6,24 @@ use Rattle.layout.proofs.header_code.Tie as tie
 returns : tie.Need-returns
 unfolding headerNumber
 returns c =
+    let mark = c .before .before in
+    let version = mark .before .before in
+    let counts = version .before .before .before in
+    let length = counts .before .before .before in
     rw (
       c .first-code5 .ensures,
       c .before .first-code4 .ensures,
-      c .before .before .has-mark .ensures,
-      c .before .before .before .first-code3 .ensures,
-      c .before .before .before .before .version-kept .ensures,
-      c .before .before .before .before .before .get16 .ensures,
-      c .before .before .before .before .before .before .first-code2 .ensures,
-      c .before .before .before .before .before .before .before .counts-kept .ensures,
-      c .before .before .before .before .before .before .before .before .get83 .ensures,
-      c .before .before .before .before .before .before .before .before .before .first-code .ensures,
-      c .before .before .before .before .before .before .before .before .before .before .sheet-length .ensures,
-      c .before .before .before .before .before .before .before .before .before .before .before .get82 .ensures,
-      c .before .before .before .before .before .before .before .before .before .before .before .before .get8 .ensures,
+      mark .has-mark .ensures,
+      mark .before .first-code3 .ensures,
+      version .version-kept .ensures,
+      version .before .get16 .ensures,
+      version .before .before .first-code2 .ensures,
+      counts .counts-kept .ensures,
+      counts .before .get83 .ensures,
+      counts .before .before .first-code .ensures,
+      length .sheet-length .ensures,
+      length .before .get82 .ensures,
+      length .before .before .get8 .ensures,
     )
 
 pub header-code-spec : {M : Type 1} → statement M

@@ -25,23 +25,32 @@ abbrev μ-loop : tie.MeasureT-loop
 μ-loop s p n ts₀ i₀ ts i = n - i
 
 loop-holds : tie.Need-loop-holds Inv-loop μ-loop
-loop-holds c =
-    (search needs, c .no-turnouts .ensures ∙ sym (places-none (sheetTurnout (now (c .before .before .before .args .s))) emptyTurnout))
+loop-holds c = (
+  search needs,
+  c .no-turnouts .ensures
+      ∙ sym (places-none (sheetTurnout (now (c .before .before .before .args .s))) emptyTurnout),
+)
 
 loop-again : tie.Need-loop-again Inv-loop μ-loop
 loop-again c =
     let f = sheetTurnout (now (c .before .before .before .before .before .before .args .s)) in
     let i = c .before .before .loop .i in
     let inv = c .before .before .loop .inv in
-    let inside : i < 64 = omega arith in
-    (search needs, ap₂ (λ (l : List Turnout) (t : Turnout). set l i t) (inv .1) (c .turnout-in .ensures) ∙ places-next f i emptyTurnout inside)
+    let inside : i < 64 = omega arith in (
+      search needs,
+      ap₂ (λ (l : List Turnout) (t : Turnout). set l i t) (inv .1) (c .turnout-in .ensures)
+          ∙ places-next f i emptyTurnout inside,
+    )
 
 returns : tie.Need-returns Inv-loop μ-loop
 returns c =
     let f = sheetTurnout (now (c .before .before .before .before .before .args .s)) in
     let inv = c .before .loop .inv in
-    let all : c .before .loop .i ≡ min (c .before .before .before .before .before .args .p) 64 = omega arith in
-    inv .1 ∙ ap (λ (m : ℕ). places f m emptyTurnout) all ∙ places-limit f (c .before .before .before .before .before .args .p) emptyTurnout
+    let p = c .before .before .before .before .before .args .p in
+    let all : c .before .loop .i ≡ min p 64 = omega arith in
+    inv .1
+    ∙ ap (λ (m : ℕ). places f m emptyTurnout) all
+    ∙ places-limit f p emptyTurnout
 
 pub turnouts-in-spec : {M : Type 1} → statement M
 turnouts-in-spec =

@@ -20,13 +20,23 @@ returns-3 : tie.Need-returns-3
 unfolding fieldNumber
 returns-3 c =
     let k = c .before .before .before .before .args .m .kind in
-    rw (le-leb 1 k (c .before .before .before .if1 .left), le-leb k 12 (c .before .before .if2 .left), ← c .before .fields-kept .ensures, c .if3 .taken)
+    rw (
+      le-leb 1 k (c .before .before .before .if1 .left),
+      le-leb k 12 (c .before .before .if2 .left),
+      ← c .before .fields-kept .ensures,
+      c .if3 .taken,
+    )
 
 returns-4 : tie.Need-returns-4
 unfolding fieldNumber
 returns-4 c =
     let k = c .before .before .before .before .args .m .kind in
-    rw (le-leb 1 k (c .before .before .before .if1 .left), le-leb k 12 (c .before .before .if2 .left), ← c .before .fields-kept .ensures, c .if3 .left)
+    rw (
+      le-leb 1 k (c .before .before .before .if1 .left),
+      le-leb k 12 (c .before .before .if2 .left),
+      ← c .before .fields-kept .ensures,
+      c .if3 .left,
+    )
 
 pub field-code-spec : {M : Type 1} → statement M
 field-code-spec = tie.close (tie.spec returns returns-2 (λ c κs. search needs) returns-3 returns-4)

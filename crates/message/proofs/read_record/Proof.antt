@@ -18,16 +18,35 @@ returns-2 : tie.Need-returns-2
 unfolding readRecord
 returns-2 c =
     let s = now (c .before .before .before .before .before .args .s) in
-    let code = c .before .field-code .ensures ∙ ap fieldNumber (c .before .before .decode .ensures) in
-    rw (eq-eqb (length s) 32 (c .before .before .before .if1 .left), ← code, ne-eqb (c .before .field-code .result) 0 (c .if2 .taken))
+    let code =
+    c .before .field-code .ensures ∙ ap fieldNumber (c .before .before .decode .ensures) in
+    rw (
+      eq-eqb (length s) 32 (c .before .before .before .if1 .left),
+      ← code,
+      ne-eqb (c .before .field-code .result) 0 (c .if2 .taken),
+    )
 
 returns-3 : tie.Need-returns-3
 unfolding readRecord
 returns-3 c =
     let s = now (c .before .before .before .before .before .before .args .s) in
-    let code = c .before .before .field-code .ensures ∙ ap fieldNumber (c .before .before .before .decode .ensures) in
-    rw (eq-eqb (length s) 32 (c .before .before .before .before .if1 .left), ← code, eq-eqb (c .before .before .field-code .result) 0 (c .before .if2 .left), c .decode2 .ensures)
+    let code =
+    c .before .before .field-code .ensures
+    ∙ ap fieldNumber (c .before .before .before .decode .ensures) in
+    rw (
+      eq-eqb (length s) 32 (c .before .before .before .before .if1 .left),
+      ← code,
+      eq-eqb (c .before .before .field-code .result) 0 (c .before .if2 .left),
+      c .decode2 .ensures,
+    )
 
 pub read-record-spec : {M : Type 1} → statement M
 read-record-spec =
-    tie.close (tie.spec returns (λ c κs. search needs) (λ c κs. search needs) returns-2 (λ c κs. search needs) returns-3)
+    tie.close
+    (tie.spec
+    returns
+    (λ c κs. search needs)
+    (λ c κs. search needs)
+    returns-2
+    (λ c κs. search needs)
+    returns-3)

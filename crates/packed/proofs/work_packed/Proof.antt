@@ -7,4 +7,11 @@ returns : tie.Need-returns
 returns c = rw (c .before .if1 .taken)
 
 pub work-packed-spec : {M : Type 1} → statement M
-work-packed-spec = tie.close (tie.spec (λ c. search needs) (λ c. search needs) returns (λ c. search needs) (λ c. search needs))
+work-packed-spec =
+    tie.close
+    (tie.spec
+    (λ c. search needs)
+    (λ c. search needs)
+    returns
+    (λ c. search needs)
+    (λ c. search needs))

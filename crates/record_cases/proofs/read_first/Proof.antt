@@ -13,4 +13,9 @@ slice-aggregate-read-code c =
 
 pub read-first-spec : {M : Type 1} → statement M
 read-first-spec =
-    tie.close (tie.spec (λ c. search needs) slice-aggregate-read-code (λ c κs. search needs) (λ c. search needs))
+    tie.close
+    (tie.spec
+    (λ c. search needs)
+    slice-aggregate-read-code
+    (λ c κs. search needs)
+    (λ c. search needs))

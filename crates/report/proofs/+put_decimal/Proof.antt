@@ -33,16 +33,20 @@ returns : (t : ℕ) → put-decimal-lts.Need-returns (claims t) (put-decimal-at 
 unfolding putAll
 returns t c =
     let c1 = c .before .before .before .before in
-    rw (decimal-small (c1 .before .before .args .n) (c1 .if1 .taken)) (c .before .before .put-byte .ensures)
+    rw (decimal-small (c1 .before .before .args .n) (c1 .if1 .taken))
+    (c .before .before .put-byte .ensures)
 
-requires : (t : ℕ) → put-decimal-lts.Need-put-decimal-requires (claims t) (put-decimal-at t) put-decimal.Post
+requires :
+    (t : ℕ) →
+    put-decimal-lts.Need-put-decimal-requires (claims t) (put-decimal-at t) put-decimal.Post
 requires t c κs = (omega (arith, c .before .before .before .pre .0), tt)
 
 returns-2 : (t : ℕ) → put-decimal-lts.Need-returns-2 (claims t) (put-decimal-at t) put-decimal.Post
 returns-2 t c =
     let c1 = c .before .before .before .before .before .before in
     let a = c1 .before .before .before .before .args in
-    rw (decimal-next (a .n) (c1 .before .before .if1 .left) (search needs)) (byte-last _ _ _ _ (c1 .put-decimal .ensures) (c .before .before .put-byte2 .ensures))
+    rw (decimal-next (a .n) (c1 .before .before .if1 .left) (search needs))
+    (byte-last _ _ _ _ (c1 .put-decimal .ensures) (c .before .before .put-byte2 .ensures))
 
 pub +put-decimal-spec : {M : Type 1} → statement M
 +put-decimal-spec = close μ-put-decimal λ t. put-decimal-lts.spec (claims t)

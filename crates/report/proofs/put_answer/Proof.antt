@@ -10,7 +10,10 @@ returns : tie.Need-returns
 unfolding withAnswer
 returns c =
     let c1 = c .before .before .before .before .before .before in
-    rw (← add-one (5 * c1 .before .before .before .args .n), ← c1 .put8 .ensures) (c .before .before .put32 .ensures)
+    rw (
+      ← add-one (5 * c1 .before .before .before .args .n),
+      ← c1 .put8 .ensures,
+    ) (c .before .before .put32 .ensures)
 
 pub put-answer-spec : {M : Type 1} → statement M
 put-answer-spec =

@@ -15,8 +15,9 @@ returns c =
     let c3 = c4 .before .before .before .before in
     let c2 = c3 .before .before .before .before in
     let c1 = c2 .before .before .before .before in
-    sym
-    (byte-after _ _ _ _ _ (c1 .put-decimal .ensures) (c2 .put-byte .ensures) ∙ byte-after _ _ _ _ _ (c3 .put-decimal2 .ensures) (c4 .put-byte2 .ensures) ∙ sym (byte-last _ _ _ _ (c5 .put-decimal3 .ensures) (c6 .put-byte3 .ensures)))
+    sym (byte-after _ _ _ _ _ (c1 .put-decimal .ensures) (c2 .put-byte .ensures)
+    ∙ byte-after _ _ _ _ _ (c3 .put-decimal2 .ensures) (c4 .put-byte2 .ensures)
+    ∙ sym (byte-last _ _ _ _ (c5 .put-decimal3 .ensures) (c6 .put-byte3 .ensures)))
 
 pub put-line-spec : {M : Type 1} → statement M
 put-line-spec =

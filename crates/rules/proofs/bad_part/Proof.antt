@@ -12,4 +12,9 @@ returns c =
 
 pub bad-part-spec : {M : Type 1} → statement M
 bad-part-spec =
-    tie.close (tie.spec (λ c κs. search needs) (λ c κs. search needs) (λ c κs. search needs) returns)
+    tie.close
+    (tie.spec
+    (λ c κs. search needs)
+    (λ c κs. search needs)
+    (λ c κs. search needs)
+    returns)

@@ -10,4 +10,5 @@ returns c =
     )
 
 pub device-under-verbal-spec : {M : Type 1} → statement M
-device-under-verbal-spec = tie.close (tie.spec (λ c κs. search needs) (λ c κs. search needs) returns)
+device-under-verbal-spec =
+    tie.close (tie.spec (λ c κs. search needs) (λ c κs. search needs) returns)

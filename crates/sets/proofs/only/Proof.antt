@@ -15,7 +15,9 @@ use Rattle.sets.proofs.only.Tie as tie
 returns : tie.Need-returns
 returns c =
     let n = c .before .args .n in
-    shl-exact 1 n 64 (lit< tt) (omega arith) ∙ one-mul (2 ^ n) ∙ sym (single-power n (c .if1 .taken))
+    shl-exact 1 n 64 (lit< tt) (omega arith)
+    ∙ one-mul (2 ^ n)
+    ∙ sym (single-power n (c .if1 .taken))
 
 returns-2 : tie.Need-returns-2
 unfolding single

@@ -11,8 +11,13 @@ use Rattle.sheet.proofs.read_sheet.Statement.{statement}
 use Rattle.sheet.proofs.read_sheet.Tie as tie
 
 -- what was found of the station that stands in the bytes
-finding : (c : tie.After-judge) → c .judge .result ≡ findingOf (judged (stationIn (now (c .before .before .before .before .before .args .s))))
-finding c = c .judge .ensures ∙ ap (λ (st : Station). findingOf (judged st)) (c .before .station-in .ensures)
+finding :
+    (c : tie.After-judge) →
+    c .judge .result
+    ≡ findingOf (judged (stationIn (now (c .before .before .before .before .before .args .s))))
+finding c =
+    c .judge .ensures
+    ∙ ap (λ (st : Station). findingOf (judged st)) (c .before .station-in .ensures)
 
 returns : tie.Need-returns
 unfolding readSheet

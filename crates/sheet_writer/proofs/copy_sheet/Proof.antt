@@ -24,4 +24,10 @@ returns-2 c =
 
 pub copy-sheet-spec : {M : Type 1} → statement M
 copy-sheet-spec =
-    tie.close (tie.spec (λ c κs. search needs) returns (λ c κs. search needs) (λ c. search needs) returns-2)
+    tie.close
+    (tie.spec
+    (λ c κs. search needs)
+    returns
+    (λ c κs. search needs)
+    (λ c. search needs)
+    returns-2)

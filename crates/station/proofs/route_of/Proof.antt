@@ -7,12 +7,20 @@ use Rattle.station.proofs.route_of.Tie as tie
 returns : tie.Need-returns
 unfolding theRoute
 returns c =
-    rw (← c .before .before .route-count .ensures, lt-ltb (c .before .before .before .before .args .n) (c .before .before .route-count .result) (c .before .if1 .taken))
+    let n = c .before .before .before .before .args .n in
+    let count = c .before .before .route-count in
+    rw (← count .ensures, lt-ltb n (count .result) (c .before .if1 .taken))
 
 returns-2 : tie.Need-returns-2
 unfolding theRoute
 returns-2 c =
-    rw (c .no-route .ensures, ← c .before .before .route-count .ensures, le-ltb (c .before .before .before .before .args .n) (c .before .before .route-count .result) (c .before .if1 .left))
+    let n = c .before .before .before .before .args .n in
+    let count = c .before .before .route-count in
+    rw (
+      c .no-route .ensures,
+      ← count .ensures,
+      le-ltb n (count .result) (c .before .if1 .left),
+    )
 
 pub route-of-spec : {M : Type 1} → statement M
 route-of-spec =

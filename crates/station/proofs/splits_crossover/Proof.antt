@@ -26,7 +26,9 @@ abbrev μ-loop : tie.MeasureT-loop
 μ-loop s n ts i₀ i = n - i
 
 -- the rule, by the number that the code has
-asked : (st : Station) (s n : ℕ) → n ≡ turnoutCount st → splits st s ≡ not (allFrom (test n (st .turnout) s) 0 n)
+asked :
+    (st : Station) (s n : ℕ) → n ≡ turnoutCount st →
+    splits st s ≡ not (allFrom (test n (st .turnout) s) 0 n)
 unfolding splits tied
 asked st s n e = rw e
 
@@ -46,13 +48,16 @@ loop-holds c =
 
 returns : tie.Need-returns Inv-loop μ-loop
 returns c =
-    let n = c .before .before .before .before .before .before .before .turnout-count .result in
+    let count = c .before .before .before .before .before .before .before .turnout-count in
+    let n = count .result in
     let a = c .before .before .before .before .before .before .before .before .args in
     let i = c .before .before .before .before .before .loop .i in
     let inv = c .before .before .before .before .before .loop .inv in
-    let fails : test n (a .st .turnout) (a .s) i ≡ false = sym (tested (c .before)) ∙ not-true (c .before .is-whole .result) (c .if1 .taken) in
-    let all = inv .1 ∙ all-next (test n (a .st .turnout) (a .s)) i n (c .before .before .before .before .loop-test .taken) in
-    sym (asked (a .st) (a .s) n (c .before .before .before .before .before .before .before .turnout-count .ensures) ∙ rw (all, fails))
+    let fails : test n (a .st .turnout) (a .s) i ≡ false =
+    sym (tested (c .before)) ∙ not-true (c .before .is-whole .result) (c .if1 .taken) in
+    let more = c .before .before .before .before .loop-test .taken in
+    let all = inv .1 ∙ all-next (test n (a .st .turnout) (a .s)) i n more in
+    sym (asked (a .st) (a .s) n (count .ensures) ∙ rw (all, fails))
 
 loop-again : tie.Need-loop-again Inv-loop μ-loop
 loop-again c =
@@ -60,8 +65,10 @@ loop-again c =
     let a = c .before .before .before .before .before .before .before .before .args in
     let i = c .before .before .before .before .before .loop .i in
     let inv = c .before .before .before .before .before .loop .inv in
-    let passes : test n (a .st .turnout) (a .s) i ≡ true = sym (tested (c .before)) ∙ not-false (c .before .is-whole .result) (c .if1 .left) in
-    (search needs, inv .1 ∙ all-next (test n (a .st .turnout) (a .s)) i n (c .before .before .before .before .loop-test .taken) ∙ rw passes)
+    let passes : test n (a .st .turnout) (a .s) i ≡ true =
+    sym (tested (c .before)) ∙ not-false (c .before .is-whole .result) (c .if1 .left) in
+    let more = c .before .before .before .before .loop-test .taken in
+    (search needs, inv .1 ∙ all-next (test n (a .st .turnout) (a .s)) i n more ∙ rw passes)
 
 returns-2 : tie.Need-returns-2 Inv-loop μ-loop
 returns-2 c =
@@ -70,7 +77,10 @@ returns-2 c =
     let i = c .before .loop .i in
     let inv = c .before .loop .inv in
     let ended : i ≡ n = omega arith in
-    let all = inv .1 ∙ ap (λ (k : ℕ). allFrom (test n (a .st .turnout) (a .s)) k (n - k)) ended ∙ all-end (test n (a .st .turnout) (a .s)) n in
+    let all =
+    inv .1
+    ∙ ap (λ (k : ℕ). allFrom (test n (a .st .turnout) (a .s)) k (n - k)) ended
+    ∙ all-end (test n (a .st .turnout) (a .s)) n in
     sym (asked (a .st) (a .s) n (c .before .before .before .turnout-count .ensures) ∙ ap not all)
 
 pub splits-crossover-spec : {M : Type 1} → statement M

@@ -14,4 +14,9 @@ returns c =
 
 pub tied-to-spec : {M : Type 1} → statement M
 tied-to-spec =
-    tie.close (tie.spec (λ c κs. search needs) (λ c κs. search needs) (λ c κs. search needs) returns)
+    tie.close
+    (tie.spec
+    (λ c κs. search needs)
+    (λ c κs. search needs)
+    (λ c κs. search needs)
+    returns)

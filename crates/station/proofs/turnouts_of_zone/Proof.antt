@@ -12,7 +12,8 @@ use Rattle.station.proofs.turnouts_of_zone.Statement.{statement}
 use Rattle.station.proofs.turnouts_of_zone.Tie as tie
 
 abbrev Inv-loop : tie.InvT-loop
-Inv-loop z n ts found₀ i₀ found i = (i ≤ n) × (found ≡ setOf (λ k. eqb (getD ts k emptyTurnout .zone) z) i)
+Inv-loop z n ts found₀ i₀ found i =
+    (i ≤ n) × (found ≡ setOf (λ k. eqb (getD ts k emptyTurnout .zone) z) i)
 
 abbrev μ-loop : tie.MeasureT-loop
 μ-loop z n ts found₀ i₀ found i = n - i

@@ -1,4 +1,5 @@
--- `put_lines` is safe and ends: the lines that may still be put fall. The loop does not alter the buffer's length.
+-- `put_lines` is safe and ends: the lines that may still be put fall. The loop does not alter the
+-- buffer's length.
 use mathlib.Core.Path.{_≡_}
 use Prim.Native.Nat.{_-_}
 use lib.ListN.{length}

@@ -6,7 +6,8 @@ use Rattle.works_desk_journal.proofs.desk_copy_sheet.Statement.{stateme
 use Rattle.works_desk_journal.proofs.desk_copy_sheet.Tie as tie
 
 returns : tie.Need-returns
-returns c = ap (λ (a : SheetCopied). copyPacked a) (c .before .before .before .before .copy-sheet .ensures)
+returns c =
+    ap (λ (a : SheetCopied). copyPacked a) (c .before .before .before .before .copy-sheet .ensures)
 
 pub desk-copy-sheet-spec : {M : Type 1} → statement M
 desk-copy-sheet-spec =

@@ -5,7 +5,11 @@ use Rattle.works_desk_signals.proofs.desk_verdict.Tie as tie
 
 returns : tie.Need-returns
 returns c =
-    rw (c .ruling-verdict .ensures, c .before .ruling-code .ensures, c .before .before .judge .ensures)
+    rw (
+      c .ruling-verdict .ensures,
+      c .before .ruling-code .ensures,
+      c .before .before .judge .ensures,
+    )
 
 pub desk-verdict-spec : {M : Type 1} → statement M
 desk-verdict-spec =

@@ -22,8 +22,17 @@ returns-2 c =
     let s = now (c .before .before .before .before .before .before .before .args .desk) in
     let fresh = c .before .before .before .before .fresh in
     let room = c .before .before .before .before .before .if1 .left in
-    let stored = c .before .before .encode .ensures ∙ sets-whole s (deskBytes (fresh .result)) (length-deskBytes (fresh .result) ∙ sym room) in
+    let stored =
+    c .before .before .encode .ensures
+    ∙ sets-whole s (deskBytes (fresh .result)) (length-deskBytes (fresh .result) ∙ sym room) in
     rw (stored, fresh .ensures, eq-eqb (length s) 520 room)
 
 pub unit-fresh-spec : {M : Type 1} → statement M
-unit-fresh-spec = tie.close (tie.spec returns (λ c κs. search needs) (λ c κs. search needs) (λ c. search needs) returns-2)
+unit-fresh-spec =
+    tie.close
+    (tie.spec
+    returns
+    (λ c κs. search needs)
+    (λ c κs. search needs)
+    (λ c. search needs)
+    returns-2)

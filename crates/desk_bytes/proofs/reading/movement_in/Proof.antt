@@ -7,7 +7,17 @@ use Rattle.desk_bytes.proofs.reading.movement_in.Tie as tie
 returns : tie.Need-returns
 unfolding movementIn
 returns c =
-    rw (c .get642 .ensures, c .before .get64 .ensures, c .before .before .get83 .ensures, c .before .before .before .get82 .ensures, c .before .before .before .before .get32 .ensures, ← c .before .before .before .before .before .before .get8 .ensures, eq-eqb (c .before .before .before .before .before .before .get8 .result) 1 (c .before .before .before .before .before .if1 .taken))
+    let stands = c .before .before .before .before .before in
+    let first = stands .before .get8 in
+    rw (
+      c .get642 .ensures,
+      c .before .get64 .ensures,
+      c .before .before .get83 .ensures,
+      c .before .before .before .get82 .ensures,
+      c .before .before .before .before .get32 .ensures,
+      ← first .ensures,
+      eq-eqb (first .result) 1 (stands .if1 .taken),
+    )
 
 returns-2 : tie.Need-returns-2
 unfolding movementIn

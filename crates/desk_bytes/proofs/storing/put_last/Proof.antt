@@ -22,10 +22,15 @@ returns c =
     let c1 = c2 .before .before .before .before in
     let a = c1 .before .before .before .before .args in
     let byte = c1 .before .recorder-byte in
-    let rest = beBytes 4 (a .time) ++ replicate 10 0 in
-    part-then (byte .result ∷ []) rest (now (a .s)) (a .at) (a .at + 1) refl (c1 .put8 .ensures)
-    (part-then (beBytes 4 (a .time)) (replicate 10 0) (c1 .put8 .last .0) (a .at + 1) (a .at + 5) (omega arith) (c2 .put32 .ensures)
-    (part-then (beBytes 8 0) (beBytes 2 0) (c2 .put32 .last .0) (a .at + 5) (a .at + 13) (omega arith) (c3 .put64 .ensures)
+    let at = a .at in
+    let time = beBytes 4 (a .time) in
+    let rest = time ++ replicate 10 0 in
+    part-then (byte .result ∷ []) rest (now (a .s)) at (at + 1) refl
+    (c1 .put8 .ensures)
+    (part-then time (replicate 10 0) (c1 .put8 .last .0) (at + 1) (at + 5) (omega arith)
+    (c2 .put32 .ensures)
+    (part-then (beBytes 8 0) (beBytes 2 0) (c2 .put32 .last .0) (at + 5) (at + 13) (omega arith)
+    (c3 .put64 .ensures)
     (c4 .put16 .ensures)))
     ∙ ap (λ (x : ℕ). sets (now (a .s)) (a .at) (x ∷ rest)) (byte .ensures)
 

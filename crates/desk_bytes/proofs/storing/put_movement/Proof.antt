@@ -12,13 +12,17 @@ returns : tie.Need-returns
 unfolding movementBytes
 returns c =
     let a = c .before .before .before .before .before .before .before .args in
-    c .before .before .put-movement-fields .ensures ∙ ap (λ (v : Movement). sets (now (a .s)) (a .at) (movementBytes v)) (sym (c .before .before .before .before .enum-told .given .1))
+    let none = c .before .before .before .before .enum-told .given .1 in
+    c .before .before .put-movement-fields .ensures
+    ∙ ap (λ (v : Movement). sets (now (a .s)) (a .at) (movementBytes v)) (sym none)
 
 returns-2 : tie.Need-returns-2
 unfolding movementBytes
 returns-2 c =
     let a = c .before .before .before .before .before .before .before .before .args in
-    c .before .before .put-movement-fields2 .ensures ∙ ap (λ (v : Movement). sets (now (a .s)) (a .at) (movementBytes v)) (sym (c .before .before .before .before .before .v .given .1))
+    let standing = c .before .before .before .before .before .v .given .1 in
+    c .before .before .put-movement-fields2 .ensures
+    ∙ ap (λ (v : Movement). sets (now (a .s)) (a .at) (movementBytes v)) (sym standing)
 
 pub put-movement-spec : {M : Type 1} → statement M
 put-movement-spec =

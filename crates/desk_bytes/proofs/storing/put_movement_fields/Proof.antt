@@ -22,11 +22,17 @@ returns c =
     let r5 = beBytes 8 (a .efficient) in
     let r4 = beBytes 8 (a .cleared) ++ r5 in
     let r3 = beBytes 4 (a .train) ++ r4 in
-    part-then (a .standing ∷ []) (a .route ∷ a .order ∷ r3) (now (a .s)) (a .at) (a .at + 1) refl (c1 .put8 .ensures)
-    (part-then (a .route ∷ []) (a .order ∷ r3) (c1 .put8 .last .0) (a .at + 1) (a .at + 2) (omega arith) (c2 .put82 .ensures)
-    (part-then (a .order ∷ []) r3 (c2 .put82 .last .0) (a .at + 2) (a .at + 3) (omega arith) (c3 .put83 .ensures)
-    (part-then (beBytes 4 (a .train)) r4 (c3 .put83 .last .0) (a .at + 3) (a .at + 7) (omega arith) (c4 .put32 .ensures)
-    (part-then (beBytes 8 (a .cleared)) r5 (c4 .put32 .last .0) (a .at + 7) (a .at + 15) (omega arith) (c5 .put64 .ensures)
+    let at = a .at in
+    part-then (a .standing ∷ []) (a .route ∷ a .order ∷ r3) (now (a .s)) at (at + 1) refl
+    (c1 .put8 .ensures)
+    (part-then (a .route ∷ []) (a .order ∷ r3) (c1 .put8 .last .0) (at + 1) (at + 2) (omega arith)
+    (c2 .put82 .ensures)
+    (part-then (a .order ∷ []) r3 (c2 .put82 .last .0) (at + 2) (at + 3) (omega arith)
+    (c3 .put83 .ensures)
+    (part-then (beBytes 4 (a .train)) r4 (c3 .put83 .last .0) (at + 3) (at + 7) (omega arith)
+    (c4 .put32 .ensures)
+    (part-then (beBytes 8 (a .cleared)) r5 (c4 .put32 .last .0) (at + 7) (at + 15) (omega arith)
+    (c5 .put64 .ensures)
     (c6 .put642 .ensures)))))
 
 pub put-movement-fields-spec : {M : Type 1} → statement M

@@ -12,19 +12,25 @@ returns : tie.Need-returns
 unfolding workBytes
 returns c =
     let a = c .before .before .before .before .before .before .before .args in
-    c .before .before .put-work-fields .ensures ∙ ap (λ (w : Work). sets (now (a .s)) (a .at) (workBytes w)) (sym (c .before .before .before .before .enum-told .given .1))
+    let none = c .before .before .before .before .enum-told .given .1 in
+    c .before .before .put-work-fields .ensures
+    ∙ ap (λ (w : Work). sets (now (a .s)) (a .at) (workBytes w)) (sym none)
 
 returns-2 : tie.Need-returns-2
 unfolding workBytes
 returns-2 c =
     let a = c .before .before .before .before .before .before .before .before .args in
-    c .before .before .put-work-fields2 .ensures ∙ ap (λ (w : Work). sets (now (a .s)) (a .at) (workBytes w)) (sym (c .before .before .before .before .before .w .given .1))
+    let asked = c .before .before .before .before .before .w .given .1 in
+    c .before .before .put-work-fields2 .ensures
+    ∙ ap (λ (w : Work). sets (now (a .s)) (a .at) (workBytes w)) (sym asked)
 
 returns-3 : tie.Need-returns-3
 unfolding workBytes
 returns-3 c =
     let a = c .before .before .before .before .before .before .before .before .args in
-    c .before .before .put-work-fields3 .ensures ∙ ap (λ (w : Work). sets (now (a .s)) (a .at) (workBytes w)) (sym (c .before .before .before .before .before .w2 .given .1))
+    let agreed = c .before .before .before .before .before .w2 .given .1 in
+    c .before .before .put-work-fields3 .ensures
+    ∙ ap (λ (w : Work). sets (now (a .s)) (a .at) (workBytes w)) (sym agreed)
 
 pub put-work-spec : {M : Type 1} → statement M
 put-work-spec =

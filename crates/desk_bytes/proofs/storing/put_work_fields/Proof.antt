@@ -23,11 +23,17 @@ returns c =
     let r4 = beBytes 4 (a .since) ++ r5 in
     let r3 = beBytes 8 (a .set) ++ r4 in
     let r2 = beBytes 4 (a .form) ++ r3 in
-    part-then (a .stage ∷ []) (a .manner ∷ r2) (now (a .s)) (a .at) (a .at + 1) refl (c1 .put8 .ensures)
-    (part-then (a .manner ∷ []) r2 (c1 .put8 .last .0) (a .at + 1) (a .at + 2) (omega arith) (c2 .put82 .ensures)
-    (part-then (beBytes 4 (a .form)) r3 (c2 .put82 .last .0) (a .at + 2) (a .at + 6) (omega arith) (c3 .put32 .ensures)
-    (part-then (beBytes 8 (a .set)) r4 (c3 .put32 .last .0) (a .at + 6) (a .at + 14) (omega arith) (c4 .put64 .ensures)
-    (part-then (beBytes 4 (a .since)) r5 (c4 .put64 .last .0) (a .at + 14) (a .at + 18) (omega arith) (c5 .put322 .ensures)
+    let at = a .at in
+    part-then (a .stage ∷ []) (a .manner ∷ r2) (now (a .s)) at (at + 1) refl
+    (c1 .put8 .ensures)
+    (part-then (a .manner ∷ []) r2 (c1 .put8 .last .0) (at + 1) (at + 2) (omega arith)
+    (c2 .put82 .ensures)
+    (part-then (beBytes 4 (a .form)) r3 (c2 .put82 .last .0) (at + 2) (at + 6) (omega arith)
+    (c3 .put32 .ensures)
+    (part-then (beBytes 8 (a .set)) r4 (c3 .put32 .last .0) (at + 6) (at + 14) (omega arith)
+    (c4 .put64 .ensures)
+    (part-then (beBytes 4 (a .since)) r5 (c4 .put64 .last .0) (at + 14) (at + 18) (omega arith)
+    (c5 .put322 .ensures)
     (c6 .put642 .ensures)))))
 
 pub put-work-fields-spec : {M : Type 1} → statement M

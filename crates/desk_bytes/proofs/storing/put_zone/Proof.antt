@@ -19,8 +19,10 @@ returns c =
     let a = c1 .before .before .before .args in
     let movement = movementBytes (a .z .movement) in
     let last = lastBytes (a .z .recorder) (a .z .time) in
-    part-then (workBytes (a .z .work)) (movement ++ last) (now (a .s)) (a .at) (a .at + 26) refl (c1 .put-work .ensures)
-    (part-then movement last (c1 .put-work .last .1 .0) (a .at + 26) (a .at + 49) (omega arith) (c2 .put-movement .ensures)
+    part-then (workBytes (a .z .work)) (movement ++ last) (now (a .s)) (a .at) (a .at + 26) refl
+    (c1 .put-work .ensures)
+    (part-then movement last (c1 .put-work .last .1 .0) (a .at + 26) (a .at + 49) (omega arith)
+    (c2 .put-movement .ensures)
     (c3 .put-last .ensures))
 
 pub put-zone-spec : {M : Type 1} → statement M

@@ -14,7 +14,9 @@ use Rattle.desk_bytes.proofs.storing.put_zones.Tie as tie
 
 abbrev Inv-loop : tie.InvT-loop
 Inv-loop s₀ d k₀ s k =
-    (k ≤ 8) × (length s ≡ length s₀) × (sets s (8 + 64 * k) (zonesFrom d k (8 - k)) ≡ sets s₀ 8 (zonesFrom d 0 8))
+    (k ≤ 8)
+    × (length s ≡ length s₀)
+    × (sets s (8 + 64 * k) (zonesFrom d k (8 - k)) ≡ sets s₀ 8 (zonesFrom d 0 8))
 
 abbrev μ-loop : tie.MeasureT-loop
 μ-loop s₀ d k₀ s k = 8 - k
@@ -26,11 +28,15 @@ loop-again : tie.Need-loop-again Inv-loop μ-loop
 loop-again c =
     let a = c .before .before .before .before .before .before .before .before .args in
     let l = c .before .before .before .before .before .before .loop in
+    let left = zonesFrom (a .t1) (l .k + 1) (8 - (l .k + 1)) in
+    let more = c .before .before .before .before .before .loop-test .taken in
     let stored = c .before .before .put-zone .ensures in (
       search needs,
-      ap length stored ∙ length-sets (l .s) (8 + 64 * l .k) (zoneBytes (zoneAt (a .t1) (l .k))) ∙ l .inv .1,
-      ap (λ (s : List ℕ). sets s (8 + 64 * (l .k + 1)) (zonesFrom (a .t1) (l .k + 1) (8 - (l .k + 1)))) stored
-          ∙ sym (zones-next (a .t1) (l .s) (l .k) (c .before .before .before .before .before .loop-test .taken))
+      ap length stored
+          ∙ length-sets (l .s) (8 + 64 * l .k) (zoneBytes (zoneAt (a .t1) (l .k)))
+          ∙ l .inv .1,
+      ap (λ (s : List ℕ). sets s (8 + 64 * (l .k + 1)) left) stored
+          ∙ sym (zones-next (a .t1) (l .s) (l .k) more)
           ∙ l .inv .2,
     )
 

@@ -23,7 +23,11 @@ returns-3 c =
 returns-4 : tie.Need-returns-4
 unfolding named
 returns-4 c =
-    rw (c .before .before .match .keys4, c .before .no-sets2 .ensures, c .clearance-details .ensures)
+    rw (
+      c .before .before .match .keys4,
+      c .before .no-sets2 .ensures,
+      c .clearance-details .ensures,
+    )
 
 returns-5 : tie.Need-returns-5
 unfolding named
@@ -42,7 +46,8 @@ returns-7 c =
 
 returns-8 : tie.Need-returns-8
 returns-8 c =
-    let n = names-nothing (c .before .before .before .args .m .kind) (c .before .before .match .rest) in
+    let n =
+    names-nothing (c .before .before .before .args .m .kind) (c .before .before .match .rest) in
     rw (n, c .before .no-sets5 .ensures, c .no-details3 .ensures)
 
 pub named-kept-spec : {M : Type 1} → statement M

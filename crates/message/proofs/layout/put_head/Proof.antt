@@ -7,13 +7,19 @@ use Rattle.message.proofs.layout.put_head.Tie as tie
 returns : tie.Need-returns
 unfolding headBytes
 returns c =
+    let b = c .before .before in
+    let a = b .before .before .before .before in
+    let id = a .before .before .before .before in
+    let time = id .before .before .before .before in
+    let zone = time .before .before .before .before in
+    let kind = zone .before .before .before .before in
     rw (
-      c .before .before .put642 .ensures,
-      c .before .before .before .before .before .before .put64 .ensures,
-      c .before .before .before .before .before .before .before .before .before .before .put322 .ensures,
-      c .before .before .before .before .before .before .before .before .before .before .before .before .before .before .put32 .ensures,
-      c .before .before .before .before .before .before .before .before .before .before .before .before .before .before .before .before .before .before .put82 .ensures,
-      c .before .before .before .before .before .before .before .before .before .before .before .before .before .before .before .before .before .before .before .before .before .before .put8 .ensures,
+      b .put642 .ensures,
+      a .put64 .ensures,
+      id .put322 .ensures,
+      time .put32 .ensures,
+      zone .put82 .ensures,
+      kind .put8 .ensures,
     )
 
 pub put-head-spec : {M : Type 1} → statement M

@@ -12,11 +12,19 @@ returns-2 c =
 
 returns-3 : tie.Need-returns-3
 returns-3 c =
-    rw (c .before .before .if1 .left, eq-eqb (c .before .before .before .args .declaration) 8 (c .before .if3 .taken), c .if4 .taken)
+    rw (
+      c .before .before .if1 .left,
+      eq-eqb (c .before .before .before .args .declaration) 8 (c .before .if3 .taken),
+      c .if4 .taken,
+    )
 
 returns-4 : tie.Need-returns-4
 returns-4 c =
-    rw (c .before .before .if1 .left, eq-eqb (c .before .before .before .args .declaration) 8 (c .before .if3 .taken), c .if4 .left)
+    rw (
+      c .before .before .if1 .left,
+      eq-eqb (c .before .before .before .args .declaration) 8 (c .before .if3 .taken),
+      c .if4 .left,
+    )
 
 returns-5 : tie.Need-returns-5
 returns-5 c =

@@ -6,7 +6,13 @@ use Rattle.rules.proofs.clearances.clearance_fits.Tie as tie
 returns : tie.Need-returns
 unfolding clearanceFits
 returns c =
-    rw (c .clamp-fits .ensures, c .before .drive-fits .ensures, c .before .before .position-fits .ensures, c .before .before .before .drive-of .ensures, c .before .before .before .before .before .contains .ensures)
+    rw (
+      c .clamp-fits .ensures,
+      c .before .drive-fits .ensures,
+      c .before .before .position-fits .ensures,
+      c .before .before .before .drive-of .ensures,
+      c .before .before .before .before .before .contains .ensures,
+    )
 
 pub clearance-fits-spec : {M : Type 1} → statement M
 clearance-fits-spec =

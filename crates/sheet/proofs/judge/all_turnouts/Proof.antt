@@ -9,7 +9,8 @@ use Rattle.sheet.proofs.judge.all_turnouts.Tie as tie
 
 sub-result : tie.Need-sub-result
 sub-result c =
-    let power = c .only .ensures ∙ single-power (c .before .before .args .p) (c .before .if1 .taken) in
+    let power =
+    c .only .ensures ∙ single-power (c .before .before .args .p) (c .before .if1 .taken) in
     rw power (pow-pos (c .before .before .args .p))
 
 returns : tie.Need-returns

@@ -1,4 +1,5 @@
--- Both invariants say that what is still to be found is the answer; the label leaves both loops with the index.
+-- Both invariants say that what is still to be found is the answer; the label leaves both loops
+-- with the index.
 use mathlib.Core.Path.{_≡_, sym, ap, _∙_}
 use mathlib.Core.Bool.{Bool, true, false, not, _&&_}
 use Prim.Native.Nat.{ℕ, _-_, _≤_, min}
@@ -39,7 +40,9 @@ abbrev μ-routes : tie.MeasureT-routes
 μ-routes st p n i₀ i = n - i
 
 -- the rule, by the numbers that the code has
-found : (st : Station) (p n : ℕ) → p ≡ turnoutCount st → n ≡ routeCount st → badRoute st ≡ firstFrom (bad p st) 0 n
+found :
+    (st : Station) (p n : ℕ) → p ≡ turnoutCount st → n ≡ routeCount st →
+    badRoute st ≡ firstFrom (bad p st) 0 n
 unfolding badRoute goodRoute
 found st p n ep en =
     let limit : turnoutCount st ≡ min p 64 = omega arith in
@@ -47,11 +50,20 @@ found st p n ep en =
 
 -- what the test of a turnout says
 tested :
-    (c : tie.After-member-kept Inv-loop μ-loop Inv-routes μ-routes) →
-    c .member-kept .result
-    ≡ test (c .before .before .before .before .before .before .before .before .before .before .before .before .args .t1) (routeAt (c .before .before .before .before .before .before .before .before .before .before .before .before .args .t1) (c .before .before .before .before .before .before .before .before .before .routes .i)) (c .before .before .before .before .loop .k)
+    (c : tie.After-member-kept Inv-loop μ-loop Inv-routes μ-routes)
+    → let turn = c .before .before .before .before in
+    let route = turn .before .before .before .before .before in
+    let st = route .before .before .before .args .t1 in
+    c .member-kept .result ≡ test st (routeAt st (route .routes .i)) (turn .loop .k)
 unfolding tied
-tested c = rw (c .member-kept .ensures, c .before .tied-with .ensures, c .before .before .before .before .before .before .before .before .before .before .before .turnout-count .ensures)
+tested c =
+    let turn = c .before .before .before .before in
+    let route = turn .before .before .before .before .before in
+    rw (
+      c .member-kept .ensures,
+      c .before .tied-with .ensures,
+      route .before .before .turnout-count .ensures,
+    )
 
 routes-holds : tie.Need-routes-holds Inv-loop μ-loop Inv-routes μ-routes
 routes-holds c =
@@ -63,63 +75,101 @@ loop-holds c =
 
 loop-again : tie.Need-loop-again Inv-loop μ-loop Inv-routes μ-routes
 loop-again c =
-    let st = c .before .before .before .before .before .before .before .before .before .before .before .before .before .args .t1 in
-    let p = c .before .before .before .before .before .before .before .before .before .before .before .before .turnout-count .result in
-    let n = c .before .before .before .before .before .before .before .before .before .before .before .route-count .result in
-    let i = c .before .before .before .before .before .before .before .before .before .before .routes .i in
-    let inv = c .before .before .before .before .before .before .before .before .before .before .routes .inv in
-    let k = c .before .before .before .before .before .loop .k in
-    let passes : test st (routeAt st i) k ≡ true = sym (tested (c .before)) ∙ not-false (c .before .member-kept .result) (c .if2 .left) in
-    (search needs, c .before .before .before .before .before .loop .inv .1 ∙ all-next (test st (routeAt st i)) k p (c .before .before .before .before .loop-test .taken) ∙ rw passes)
+    let turn = c .before .before .before .before .before in
+    let route = turn .before .before .before .before .before in
+    let st = route .before .before .before .args .t1 in
+    let p = route .before .before .turnout-count .result in
+    let n = route .before .route-count .result in
+    let i = route .routes .i in
+    let inv = route .routes .inv in
+    let k = turn .loop .k in
+    let more = c .before .before .before .before .loop-test .taken in
+    let passes : test st (routeAt st i) k ≡ true =
+    sym (tested (c .before)) ∙ not-false (c .before .member-kept .result) (c .if2 .left) in (
+      search needs,
+      turn .loop .inv .1
+          ∙ all-next (test st (routeAt st i)) k p more
+          ∙ rw passes,
+    )
 
 routes-again : tie.Need-routes-again Inv-loop μ-loop Inv-routes μ-routes
 routes-again c =
     let st = c .before .before .before .before .before .before .before .before .before .args .t1 in
-    let p = c .before .before .before .before .before .before .before .before .turnout-count .result in
+    let p =
+    c .before .before .before .before .before .before .before .before .turnout-count .result in
     let n = c .before .before .before .before .before .before .before .route-count .result in
     let i = c .before .before .before .before .before .before .routes .i in
     let inv = c .before .before .before .before .before .before .routes .inv in
     let k = c .before .loop .k in
-    let sets = sym (c .before .before .before .sets-kept .ensures) ∙ not-false (c .before .before .before .sets-kept .result) (c .before .before .if1 .left) in
+    let sets =
+    sym (c .before .before .before .sets-kept .ensures)
+    ∙ not-false (c .before .before .before .sets-kept .result) (c .before .before .if1 .left) in
     let ended : k ≡ p = omega arith in
-    let all = c .before .loop .inv .1 ∙ ap (λ (j : ℕ). allFrom (test st (routeAt st i)) j (p - j)) ended ∙ all-end (test st (routeAt st i)) p in
+    let all =
+    c .before .loop .inv .1
+    ∙ ap (λ (j : ℕ). allFrom (test st (routeAt st i)) j (p - j)) ended
+    ∙ all-end (test st (routeAt st i)) p in
     let good : bad p st i ≡ false = rw (sets, all) in
-    (search needs, inv .1 ∙ first-next (bad p st) i n (c .before .before .before .before .before .routes-test .taken) ∙ rw good)
+    let more = c .before .before .before .before .before .routes-test .taken in (
+      search needs,
+      inv .1
+          ∙ first-next (bad p st) i n more
+          ∙ rw good,
+    )
 
 returns : tie.Need-returns Inv-loop μ-loop Inv-routes μ-routes
 returns c =
+    let turnouts = c .before .before .before .turnout-count in
+    let routes = c .before .before .route-count in
     let st = c .before .before .before .before .args .t1 in
-    let p = c .before .before .before .turnout-count .result in
-    let n = c .before .before .route-count .result in
+    let p = turnouts .result in
+    let n = routes .result in
     let i = c .before .routes .i in
     let inv = c .before .routes .inv in
     let ended : i ≡ n = omega arith in
-    ended ∙ sym (found st p n (c .before .before .before .turnout-count .ensures) (c .before .before .route-count .ensures) ∙ inv .1 ∙ ap (λ (j : ℕ). firstFrom (bad p st) j (n - j)) ended ∙ first-end (bad p st) n)
+    let start = found st p n (turnouts .ensures) (routes .ensures) in
+    let left = start ∙ inv .1 ∙ ap (λ (j : ℕ). firstFrom (bad p st) j (n - j)) ended in
+    ended ∙ sym (left ∙ first-end (bad p st) n)
 
 returns-2 : tie.Need-returns-2 Inv-loop μ-loop Inv-routes μ-routes
 returns-2 c =
+    let turnouts = c .before .before .before .before .before .before .turnout-count in
+    let routes = c .before .before .before .before .before .route-count in
     let st = c .before .before .before .before .before .before .before .args .t1 in
-    let p = c .before .before .before .before .before .before .turnout-count .result in
-    let n = c .before .before .before .before .before .route-count .result in
+    let p = turnouts .result in
+    let n = routes .result in
     let i = c .before .before .before .before .routes .i in
     let inv = c .before .before .before .before .routes .inv in
-    let sets = sym (c .before .sets-kept .ensures) ∙ not-true (c .before .sets-kept .result) (c .if1 .taken) in
+    let sets =
+    sym (c .before .sets-kept .ensures) ∙ not-true (c .before .sets-kept .result) (c .if1 .taken) in
     let now-bad : bad p st i ≡ true = rw sets in
-    sym (found st p n (c .before .before .before .before .before .before .turnout-count .ensures) (c .before .before .before .before .before .route-count .ensures) ∙ inv .1 ∙ first-next (bad p st) i n (c .before .before .before .routes-test .taken) ∙ rw now-bad)
+    let start = found st p n (turnouts .ensures) (routes .ensures) in
+    let more = c .before .before .before .routes-test .taken in
+    sym (start ∙ inv .1 ∙ first-next (bad p st) i n more ∙ rw now-bad)
 
 returns-3 : tie.Need-returns-3 Inv-loop μ-loop Inv-routes μ-routes
 returns-3 c =
-    let st = c .before .before .before .before .before .before .before .before .before .before .before .before .before .args .t1 in
-    let p = c .before .before .before .before .before .before .before .before .before .before .before .before .turnout-count .result in
-    let n = c .before .before .before .before .before .before .before .before .before .before .before .route-count .result in
-    let i = c .before .before .before .before .before .before .before .before .before .before .routes .i in
-    let inv = c .before .before .before .before .before .before .before .before .before .before .routes .inv in
-    let k = c .before .before .before .before .before .loop .k in
-    let sets = sym (c .before .before .before .before .before .before .before .sets-kept .ensures) ∙ not-false (c .before .before .before .before .before .before .before .sets-kept .result) (c .before .before .before .before .before .before .if1 .left) in
-    let fails : test st (routeAt st i) k ≡ false = sym (tested (c .before)) ∙ not-true (c .before .member-kept .result) (c .if2 .taken) in
-    let some = c .before .before .before .before .before .loop .inv .1 ∙ all-next (test st (routeAt st i)) k p (c .before .before .before .before .loop-test .taken) in
+    let turn = c .before .before .before .before .before in
+    let route = turn .before .before .before .before .before in
+    let turnouts = route .before .before .turnout-count in
+    let routes = route .before .route-count in
+    let st = route .before .before .before .args .t1 in
+    let p = turnouts .result in
+    let n = routes .result in
+    let i = route .routes .i in
+    let inv = route .routes .inv in
+    let k = turn .loop .k in
+    let kept = turn .before .before .sets-kept in
+    let sets = sym (kept .ensures) ∙ not-false (kept .result) (turn .before .if1 .left) in
+    let fails : test st (routeAt st i) k ≡ false =
+    sym (tested (c .before)) ∙ not-true (c .before .member-kept .result) (c .if2 .taken) in
+    let some =
+    turn .loop .inv .1
+    ∙ all-next (test st (routeAt st i)) k p (c .before .before .before .before .loop-test .taken) in
     let now-bad : bad p st i ≡ true = rw (sets, some, fails) in
-    sym (found st p n (c .before .before .before .before .before .before .before .before .before .before .before .before .turnout-count .ensures) (c .before .before .before .before .before .before .before .before .before .before .before .route-count .ensures) ∙ inv .1 ∙ first-next (bad p st) i n (c .before .before .before .before .before .before .before .before .before .routes-test .taken) ∙ rw now-bad)
+    let start = found st p n (turnouts .ensures) (routes .ensures) in
+    let more = turn .before .before .before .before .routes-test .taken in
+    sym (start ∙ inv .1 ∙ first-next (bad p st) i n more ∙ rw now-bad)
 
 pub first-bad-route-spec : {M : Type 1} → statement M
 first-bad-route-spec =

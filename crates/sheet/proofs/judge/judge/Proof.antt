@@ -16,7 +16,12 @@ unfolding judged
 returns-2 c =
     let t = c .before .before .before .first-bad-turnout in
     let p = c .before .before .turnout-count in
-    rw (c .judge-routes .ensures, ← t .ensures, ← p .ensures, le-ltb (t .result) (p .result) (c .before .if1 .left))
+    rw (
+      c .judge-routes .ensures,
+      ← t .ensures,
+      ← p .ensures,
+      le-ltb (t .result) (p .result) (c .before .if1 .left),
+    )
 
 pub judge-spec : {M : Type 1} → statement M
 judge-spec =

@@ -19,7 +19,8 @@ use Rattle.sheet.proofs.partners.first_bad_turnout.Tie as tie
 -- turnout n of the records ts is bad
 abbrev bad : ℕ → ℕ → List Turnout → ℕ → Bool
 bad p z ts n =
-    not (turnoutKept p z n (getD ts n emptyTurnout) (getD ts (getD ts n emptyTurnout .partner) emptyTurnout))
+    not (turnoutKept p z n (getD ts n emptyTurnout)
+    (getD ts (getD ts n emptyTurnout .partner) emptyTurnout))
 
 abbrev Inv-loop : tie.InvT-loop
 Inv-loop p z ts i₀ i = (i ≤ p) × (firstFrom (bad p z ts) 0 p ≡ firstFrom (bad p z ts) i (p - i))
@@ -28,11 +29,19 @@ abbrev μ-loop : tie.MeasureT-loop
 μ-loop p z ts i₀ i = p - i
 
 -- what the test of a turn says
-kept : (c : tie.After-turnout-kept Inv-loop μ-loop) → not (c .turnout-kept .result) ≡ bad (c .before .before .before .before .before .before .before .before .turnout-count .result) (c .before .before .before .before .before .before .before .zone-count .result) (c .before .before .before .before .before .before .before .before .before .args .st .turnout) (c .before .before .before .before .before .loop .i)
+kept :
+    (c : tie.After-turnout-kept Inv-loop μ-loop) →
+    not (c .turnout-kept .result)
+    ≡ bad (c .before .before .before .before .before .before .before .before .turnout-count .result)
+    (c .before .before .before .before .before .before .before .zone-count .result)
+    (c .before .before .before .before .before .before .before .before .before .args .st .turnout)
+    (c .before .before .before .before .before .loop .i)
 kept c = rw (c .turnout-kept .ensures, c .before .record-of .ensures)
 
 -- the first bad turnout, by the numbers that the code has
-found : (st : Station) (p z : ℕ) → p ≡ turnoutCount st → z ≡ zoneCount st → badTurnout st ≡ firstFrom (bad p z (st .turnout)) 0 p
+found :
+    (st : Station) (p z : ℕ) → p ≡ turnoutCount st → z ≡ zoneCount st →
+    badTurnout st ≡ firstFrom (bad p z (st .turnout)) 0 p
 unfolding badTurnout goodTurnout
 found st p z ep ez = rw (ep, ez)
 
@@ -42,35 +51,44 @@ loop-holds c =
 
 returns : tie.Need-returns Inv-loop μ-loop
 returns c =
-    let p = c .before .before .before .before .before .before .before .before .before .turnout-count .result in
-    let z = c .before .before .before .before .before .before .before .before .zone-count .result in
-    let st = c .before .before .before .before .before .before .before .before .before .before .args .st in
-    let i = c .before .before .before .before .before .before .loop .i in
-    let inv = c .before .before .before .before .before .before .loop .inv in
-    let start = found st p z (c .before .before .before .before .before .before .before .before .before .turnout-count .ensures) (c .before .before .before .before .before .before .before .before .zone-count .ensures) in
+    let turn = c .before .before .before .before .before .before in
+    let turnouts = turn .before .before .before .turnout-count in
+    let zones = turn .before .before .zone-count in
+    let st = turn .before .before .before .before .args .st in
+    let p = turnouts .result in
+    let z = zones .result in
+    let i = turn .loop .i in
+    let inv = turn .loop .inv in
+    let start = found st p z (turnouts .ensures) (zones .ensures) in
     let now-bad : bad p z (st .turnout) i ≡ true = sym (kept (c .before)) ∙ c .if1 .taken in
-    sym (start ∙ inv .1 ∙ first-next (bad p z (st .turnout)) i p (c .before .before .before .before .before .loop-test .taken) ∙ rw now-bad)
+    let more = c .before .before .before .before .before .loop-test .taken in
+    sym (start ∙ inv .1 ∙ first-next (bad p z (st .turnout)) i p more ∙ rw now-bad)
 
 loop-again : tie.Need-loop-again Inv-loop μ-loop
 loop-again c =
-    let p = c .before .before .before .before .before .before .before .before .before .turnout-count .result in
-    let z = c .before .before .before .before .before .before .before .before .zone-count .result in
-    let st = c .before .before .before .before .before .before .before .before .before .before .args .st in
-    let i = c .before .before .before .before .before .before .loop .i in
-    let inv = c .before .before .before .before .before .before .loop .inv in
+    let turn = c .before .before .before .before .before .before in
+    let st = turn .before .before .before .before .args .st in
+    let p = turn .before .before .before .turnout-count .result in
+    let z = turn .before .before .zone-count .result in
+    let i = turn .loop .i in
+    let inv = turn .loop .inv in
     let now-good : bad p z (st .turnout) i ≡ false = sym (kept (c .before)) ∙ c .if1 .left in
-    (search needs, inv .1 ∙ first-next (bad p z (st .turnout)) i p (c .before .before .before .before .before .loop-test .taken) ∙ rw now-good)
+    let more = c .before .before .before .before .before .loop-test .taken in
+    (search needs, inv .1 ∙ first-next (bad p z (st .turnout)) i p more ∙ rw now-good)
 
 returns-2 : tie.Need-returns-2 Inv-loop μ-loop
 returns-2 c =
-    let p = c .before .before .before .before .turnout-count .result in
-    let z = c .before .before .before .zone-count .result in
+    let turnouts = c .before .before .before .before .turnout-count in
+    let zones = c .before .before .before .zone-count in
     let st = c .before .before .before .before .before .args .st in
+    let p = turnouts .result in
+    let z = zones .result in
     let i = c .before .loop .i in
     let inv = c .before .loop .inv in
-    let start = found st p z (c .before .before .before .before .turnout-count .ensures) (c .before .before .before .zone-count .ensures) in
+    let start = found st p z (turnouts .ensures) (zones .ensures) in
     let all : i ≡ p = omega arith in
-    sym (start ∙ inv .1 ∙ ap (λ (k : ℕ). firstFrom (bad p z (st .turnout)) k (p - k)) all ∙ first-end (bad p z (st .turnout)) p)
+    let left = start ∙ inv .1 ∙ ap (λ (k : ℕ). firstFrom (bad p z (st .turnout)) k (p - k)) all in
+    sym (left ∙ first-end (bad p z (st .turnout)) p)
 
 pub first-bad-turnout-spec : {M : Type 1} → statement M
 first-bad-turnout-spec =

@@ -1,4 +1,5 @@
--- Turnouts and routes are stored in turn: the loop does not alter the buffer's length; the records left fall.
+-- Turnouts and routes are stored in turn: the loop does not alter the buffer's length; the records
+-- left fall.
 use Prim.Native.Nat.{_-_}
 use mathlib.Core.Path.{_≡_}
 use lib.ListN.{length}

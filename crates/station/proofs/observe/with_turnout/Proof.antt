@@ -13,4 +13,5 @@ returns-2 c =
     rw (c .if1 .left) (sym (or-zero-r (c .before .args .s)))
 
 pub with-turnout-spec : {M : Type 1} → statement M
-with-turnout-spec = tie.close (tie.spec (λ c κs. search needs) (λ c κs. search needs) returns returns-2)
+with-turnout-spec =
+    tie.close (tie.spec (λ c κs. search needs) (λ c κs. search needs) returns returns-2)

@@ -1,4 +1,5 @@
--- `stations::put_answers` is safe and ends: the answers left fall. The loop does not alter the buffer's length.
+-- `stations::put_answers` is safe and ends: the answers left fall. The loop does not alter the
+-- buffer's length.
 use mathlib.Core.Path.{_≡_}
 use Prim.Native.Nat.{_-_}
 use lib.ListN.{length}

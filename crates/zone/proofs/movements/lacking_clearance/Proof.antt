@@ -4,8 +4,17 @@ use Rattle.zone.proofs.movements.lacking_clearance.Tie as tie
 
 returns : tie.Need-returns
 returns c =
-    rw (c .minus .ensures, c .before .cleared-set .ensures, c .before .before .worked-turnouts .ensures)
+    rw (
+      c .minus .ensures,
+      c .before .cleared-set .ensures,
+      c .before .before .worked-turnouts .ensures,
+    )
 
 pub lacking-clearance-spec : {M : Type 1} → statement M
 lacking-clearance-spec =
-    tie.close (tie.spec (λ c κs. search needs) (λ c κs. search needs) (λ c κs. search needs) returns)
+    tie.close
+    (tie.spec
+    (λ c κs. search needs)
+    (λ c κs. search needs)
+    (λ c κs. search needs)
+    returns)

@@ -12,4 +12,5 @@ returns-2 c =
     rw (ne-eqb (c .before .before .args .order) 1 (c .before .if1 .left), c .is-held .ensures)
 
 pub order-refused-spec : {M : Type 1} → statement M
-order-refused-spec = tie.close (tie.spec (λ c κs. search needs) returns (λ c κs. search needs) returns-2)
+order-refused-spec =
+    tie.close (tie.spec (λ c κs. search needs) returns (λ c κs. search needs) returns-2)

@@ -7,4 +7,5 @@ returns-2 c =
     rw (c .before .v .given .1)
 
 pub ordered-as-spec : {M : Type 1} → statement M
-ordered-as-spec = tie.close (tie.spec (λ c. search needs) (λ c. search needs) (λ c. search needs) returns-2)
+ordered-as-spec =
+    tie.close (tie.spec (λ c. search needs) (λ c. search needs) (λ c. search needs) returns-2)

@@ -6,17 +6,41 @@ use Rattle.zone.proofs.movements.regime.Tie as tie
 returns : tie.Need-returns
 unfolding regimeOn
 returns c =
-    rw (← c .before .before .before .before .worked-turnouts .ensures, ← c .before .before .before .cleared-set .ensures, ← c .before .before .minus .ensures, ← c .before .is-empty .ensures, c .if1 .taken)
+    rw (
+      ← c .before .before .before .before .worked-turnouts .ensures,
+      ← c .before .before .before .cleared-set .ensures,
+      ← c .before .before .minus .ensures,
+      ← c .before .is-empty .ensures,
+      c .if1 .taken,
+    )
 
 returns-2 : tie.Need-returns-2
 unfolding regimeOn
 returns-2 c =
-    rw (← c .before .before .before .before .before .before .before .worked-turnouts .ensures, ← c .before .before .before .before .before .before .cleared-set .ensures, ← c .before .before .before .before .before .minus .ensures, ← c .before .before .before .before .is-empty .ensures, c .before .before .before .if1 .left, ← c .before .before .efficient-set .ensures, ← c .before .is-within .ensures, c .if2 .taken)
+    rw (
+      ← c .before .before .before .before .before .before .before .worked-turnouts .ensures,
+      ← c .before .before .before .before .before .before .cleared-set .ensures,
+      ← c .before .before .before .before .before .minus .ensures,
+      ← c .before .before .before .before .is-empty .ensures,
+      c .before .before .before .if1 .left,
+      ← c .before .before .efficient-set .ensures,
+      ← c .before .is-within .ensures,
+      c .if2 .taken,
+    )
 
 returns-3 : tie.Need-returns-3
 unfolding regimeOn
 returns-3 c =
-    rw (← c .before .before .before .before .before .before .before .worked-turnouts .ensures, ← c .before .before .before .before .before .before .cleared-set .ensures, ← c .before .before .before .before .before .minus .ensures, ← c .before .before .before .before .is-empty .ensures, c .before .before .before .if1 .left, ← c .before .before .efficient-set .ensures, ← c .before .is-within .ensures, c .if2 .left)
+    rw (
+      ← c .before .before .before .before .before .before .before .worked-turnouts .ensures,
+      ← c .before .before .before .before .before .before .cleared-set .ensures,
+      ← c .before .before .before .before .before .minus .ensures,
+      ← c .before .before .before .before .is-empty .ensures,
+      c .before .before .before .if1 .left,
+      ← c .before .before .efficient-set .ensures,
+      ← c .before .is-within .ensures,
+      c .if2 .left,
+    )
 
 pub regime-spec : {M : Type 1} → statement M
 regime-spec =

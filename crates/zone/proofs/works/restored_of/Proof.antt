@@ -8,7 +8,12 @@ returns-2 c =
 
 returns-3 : tie.Need-returns-3
 returns-3 c =
-    rw (c .before .before .before .before .w2 .given .1, c .with-sets .ensures, c .before .minus2 .ensures, c .before .before .minus .ensures)
+    rw (
+      c .before .before .before .before .w2 .given .1,
+      c .with-sets .ensures,
+      c .before .minus2 .ensures,
+      c .before .before .minus .ensures,
+    )
 
 pub restored-of-spec : {M : Type 1} → statement M
 restored-of-spec =

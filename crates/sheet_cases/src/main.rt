@@ -9,11 +9,11 @@
 // and with 1). Then come how many bytes of it are read, and its damage, pairs of a place and the byte that is put
 // there. The output is the name, the code and the index. With 5 the sheet is station K, and the output is the name
 // and the sum of all numbers of the station that reading gives.
-// Number 10 to 18 is a question about a station: 10, 11, 12 the count of turnouts, routes, zones; 13 and 14 the zone
+// Number 10 to 19 is a question about a station: 10, 11, 12 the count of turnouts, routes, zones; 13 and 14 the zone
 // and the drive of a turnout; 15 what is tied to it; 16 the turnouts of a zone; 17 what a route names; 18 whether a
-// set splits a crossover. Then come a count, a partner and what is asked about. With count 0 the station is station
-// K; else it is one that no sheet gave, with this number for each count and this partner for each turnout. The output
-// is the name and the answer.
+// set splits a crossover; 19 whether a turnout has a partner (document 02, M-101), 1 for yes. Then come a count, a
+// partner and what is asked about. With count 0 the station is station K; else it is one that no sheet gave, with this
+// number, modulo 256, for each count and this partner for each turnout. The output is the name and the answer.
 // Number 20 to 24 is a station that is written: 20 the empty one, every number 0; 21 to 24 the one that sheet 1 to 4
 // gives. Then come the length of the buffer, at most 2,400, and changes to the station, pairs of a place and the
 // number that is put there. Places 0, 1 and 2 are the counts of turnouts, routes and zones; 3 + 3n, 4 + 3n and 5 + 3n

@@ -67,6 +67,7 @@ pub fn answer(st: station::Station, question: u16, n: u16) -> u64 {
         16 => station::turnouts_of_zone(st, (n % 256) as u8),
         17 => station::names(station::route_of(st, i)),
         18 => station::splits_crossover(st, n as u64) as u64,
+        19 => station::has_partner(st, i) as u64,
         _ => count(st, question),
     }
 }

@@ -1,7 +1,7 @@
 -- What a station says of its turnouts, routes and zones, for every station value. Document 01,
 -- 'Conditions of acceptance': "a count over its limit is read as the limit, a partner not below P
 -- as none, a stored route not below R names nothing".
-use mathlib.Core.Bool.{Bool, cond, not, _||_}
+use mathlib.Core.Bool.{Bool, cond, not, _&&_, _||_}
 use mathlib.Core.List.{List}
 use Prim.Native.Nat.{ℕ, min}
 use lib.Dec.{eqb, ltb}
@@ -65,6 +65,11 @@ tiedAmong p ts n = tiedWith p n (getD ts n emptyTurnout .partner)
 
 unfoldable pub tied : Station → ℕ → ℕ
 tied st n = tiedAmong (turnoutCount st) (st .turnout) n
+
+-- document 02, M-101, "a turnout with a partner", by the station alone: its number and the one that
+-- it names are below P, also where it names itself or is not named back
+unfoldable pub hasPartner : Station → ℕ → Bool
+hasPartner st n = ltb n (turnoutCount st) && ltb (turnoutAt st n .partner) (turnoutCount st)
 
 -- the turnouts of a zone
 unfoldable pub zoneTurnouts : Station → ℕ → ℕ

@@ -12,6 +12,7 @@ ghost use Rattle.station.specs.Station.{
   zoneOf,
   driveOf,
   tied,
+  hasPartner,
   zoneTurnouts,
   theRoute,
   routeIndex,
@@ -104,6 +105,17 @@ pub fn tied_to(st: Station, n: usize) -> u64
     let ts = st.turnout;
     let t = observe::record_of(ts, n);
     observe::tied_with(turnout_count(st), n, t.partner)
+}
+
+// Whether a turnout has a partner: it is one of the station's, and so is its partner.
+pub fn has_partner(st: Station, n: usize) -> bool
+    ensures { λ r. ⌜ r ≡ hasPartner st n ⌝ }
+{
+    let p = turnout_count(st);
+    let ts = st.turnout;
+    let t = observe::record_of(ts, n);
+    let other = t.partner as usize;
+    (n < p) & (other < p)
 }
 
 // The turnouts of a zone.

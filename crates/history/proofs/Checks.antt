@@ -51,7 +51,7 @@ clearance-turnout m six zero =
     let sets = setKept false (m .a) && setKept false (m .b) in
     let spans = and-eq-true-iff sets (detailsKept clearanceSpans (details m)) .0 row .1 in
     let later =
-    detailsKept ((1 to 9) ∷ (0 to 1) ∷ (0 to 2) ∷ (1 to 2) ∷ [])
+    detailsKept ((1 to 9) ∷ (0 to 1) ∷ (0 to 2) ∷ (1 to 2) ∷ (0 to 1) ∷ [])
     (m .d1 ∷ m .d2 ∷ m .d3 ∷ m .d4 ∷ m .d5 ∷ []) in
     let turnout = and-eq-true-iff (inSpan (0 to 63) (m .d0)) later .0 spans .0 in
     let most : m .d0 ≤ 63 =

@@ -1,7 +1,7 @@
 -- One train's movement and the messages of that train: one more of them, kind by kind. Nothing here
 -- knows of other trains or of work.
 use mathlib.Core.Bool.{Bool, true, false, cond, not, _&&_, _||_, and-true, and-false}
-use mathlib.Core.Bool.{and-eq-true-iff, true≢false}
+use mathlib.Core.Bool.{true≢false}
 use mathlib.Core.List.{List, []}
 use mathlib.Core.Path.{_≡_, refl, sym, ap, ap₂, subst, _∙_}
 use Prim.Native.Nat.{ℕ, _<_}
@@ -11,13 +11,15 @@ use Rattle.sets.specs.Sets.{has, single}
 use Rattle.sets.proofs.Membership.{has-zero, has-or, has-single}
 use Rattle.message.specs.declared.Message.{Message}
 use Rattle.station.specs.declared.Station.{Station}
-use Rattle.station.specs.Station.{theRoute, driveOf}
+use Rattle.station.specs.declared.Route.{Route}
+use Rattle.station.specs.Station.{theRoute, hasPartner}
 use Rattle.zone.specs.declared.Movement.{Movement}
 use Rattle.zone.specs.declared.Movement.the-variants.{NoMovement, Standing}
 use Rattle.zone.specs.Movement.{underTrain, routeFor, movementFor, clearedAt, orderedAs}
-use Rattle.rules.specs.Clearance.{isEfficient, positionFits, driveFits, clampFits, clearanceFits}
+use Rattle.rules.specs.Clearance.{isEfficient, clearanceFits}
+use Rattle.rules.proofs.Fits.{fits-position, fits-ends, covers-both}
 use Rattle.history.specs.Since.{Since, any}
-use Rattle.history.specs.History.{is, clears, leaves, clearsWell}
+use Rattle.history.specs.History.{is, clears, leaves, allEfficient, clearsWell}
 use Rattle.history.proofs.Append.{_then_, extend, any-more}
 use Rattle.history.proofs.More.{standing-asked, standing-left, standing-on}
 use Rattle.history.proofs.Agrees.{MovementAgrees, is-kind, not-movement, movement-kept}
@@ -32,6 +34,24 @@ eqb-sym x y = go (eqb x y) refl
 -- the set of a turnout below 64
 pub alone : (n t : ℕ) → n < 64 → has (single n) t ≡ eqb n t
 alone n t below = has-single n t ∙ rw (lt-ltb n 64 below) (eqb-sym t n)
+
+-- a clearance that fits is all efficient in the history exactly when its declaration is 1 or 2, by
+-- which the desk goes
+efficient-alike :
+    (st : Station) (r : Route) (m : Message) → clearanceFits st r m ≡ true →
+    allEfficient st (m .d0) m ≡ isEfficient (m .d1)
+efficient-alike st r m fits =
+    go (isEfficient (m .d1)) refl (hasPartner st (m .d0)) refl
+  where
+    go :
+        (efficient : Bool) → isEfficient (m .d1) ≡ efficient →
+        (partnered : Bool) → hasPartner st (m .d0) ≡ partnered →
+        allEfficient st (m .d0) m ≡ efficient
+    go true e true p =
+        let ends = fits-ends st r m fits in
+        rw (e, p, covers-both (m .d1) (hasPartner st (m .d0)) (m .d5) ends e p)
+    go true e false p = rw (e, p)
+    go false e partnered p = rw e
 
 module _ (st : Station) (L : List Message) (m : Message) where
   -- 5
@@ -77,7 +97,6 @@ module _ (st : Station) (L : List Message) (m : Message) where
       not (clearanceFits st (routeFor st v) m) ≡ false
       → MovementAgrees st L v
       → MovementAgrees st (L then m) (clearedAt v (m .d0) (isEfficient (m .d1)))
-  unfolding clearanceFits
   cleared-agrees NoMovement e below train fits a = absurd (true≢false (sym train))
   cleared-agrees (Standing p) e below train fits a = record {
     asked = a .asked;
@@ -98,19 +117,15 @@ module _ (st : Station) (L : List Message) (m : Message) where
       clears-alone : (t : ℕ) → clears t m ≡ has (single (m .d0)) t
       clears-alone t = rw (is-kind m 6 6 e) (sym (alone (m .d0) t below))
 
+      fit : clearanceFits st (theRoute st (p .route)) m ≡ true
+      fit = not-false (clearanceFits st (theRoute st (p .route)) m) fits
+
       -- the clearance is for this train, in the route's position
       this-train : m .id ≡ a .asked .id
       this-train = sym (a .train ∙ eqb-true (p .train) (m .id) train)
 
       position : eqb (m .d2) (cond (has (theRoute st (a .asked .d0) .reverse) (m .d0)) 1 0) ≡ true
-      position =
-          let r = theRoute st (p .route) in
-          let fit-position = positionFits r (m .d0) (m .d2) in
-          let fit-drive = driveFits (m .d1) (driveOf st (m .d0)) in
-          let fit-clamp = clampFits (m .d1) (has (r .over) (m .d0)) (m .d3) in
-          let all = not-false (fit-position && fit-drive && fit-clamp) fits in
-          let both = and-eq-true-iff (fit-position && fit-drive) fit-clamp .0 all .0 in
-          rw (a .route) (and-eq-true-iff fit-position fit-drive .0 both .0)
+      position = rw (a .route) (fits-position st (theRoute st (p .route)) m fit)
 
       marked : (b : Bool) (t : ℕ) → has (cond b (single (m .d0)) 0) t ≡ (b && eqb (m .d0) t)
       marked true t = alone (m .d0) t below
@@ -123,7 +138,8 @@ module _ (st : Station) (L : List Message) (m : Message) where
           let eff = isEfficient (m .d1) in
           let itself = eq-eqb (m .d0) (m .d0) refl in
           let here : clearsWell st (a .asked) (m .d0) m ≡ eff =
-          rw (is-kind m 6 6 e, itself, eq-eqb (m .id) (a .asked .id) this-train, position) in
+          rw (is-kind m 6 6 e, itself, eq-eqb (m .id) (a .asked .id) this-train, position)
+          (efficient-alike st (theRoute st (p .route)) m fit) in
           subst (λ (x : ℕ). clearsWell st (a .asked) x m ≡ has (cond eff (single (m .d0)) 0) x)
           (eqb-true (m .d0) t q)
           (here ∙ sym (marked eff (m .d0) ∙ rw itself (and-true eff)))

@@ -25,7 +25,7 @@ use Rattle.zone.specs.Movement.{clearedSet, efficientSet, routeFor, workedTurno
 use Rattle.zone.specs.Movement.{regimeOn, regimeOf, isClear, underTrain}
 use Rattle.history.specs.Since.{never, since, any}
 use Rattle.history.specs.History.{clears, clearsWell, underAgreedWork, standing, cleared}
-use Rattle.history.specs.History.{ofItsRoute, EachWorkedCleared, lacks}
+use Rattle.history.specs.History.{ofItsRoute, allEfficient, EachWorkedCleared, lacks}
 use Rattle.history.proofs.Agrees.{WorkAgrees, Stands, MovementAgrees, under-is}
 
 -- what is cleared, by the state and by the history
@@ -54,7 +54,7 @@ well-clears :
 well-clears st f t m e =
     let train = eqb (m .id) (f .id) in
     let position = eqb (m .d2) (cond (has (theRoute st (f .d0) .reverse) t) 1 0) in
-    let efficient = eqb (m .d1) 1 || eqb (m .d1) 2 in
+    let efficient = allEfficient st t m in
     let in-position = and-eq-true-iff (clears t m && train && position) efficient .0 e .0 in
     let for-train = and-eq-true-iff (clears t m && train) position .0 in-position .0 in
     and-eq-true-iff (clears t m) train .0 for-train .0

@@ -1,13 +1,13 @@
 -- The cases of the history's words: each computes.
 use mathlib.Core.Path.{refl}
 use Rattle.sets.specs.Sets.{has}
-use Rattle.station.specs.Station.{theRoute}
+use Rattle.station.specs.Station.{theRoute, hasPartner}
 use Rattle.history.specs.Since.{afterLast, afterFirst, any, anyThenNone}
 use Rattle.history.specs.History.{underAgreedWork, openToWork, standing, cleared}
 use Rattle.history.specs.Cases.{WordCases}
 
 pub word-cases : WordCases
-unfolding has theRoute underAgreedWork openToWork standing cleared
+unfolding has theRoute hasPartner underAgreedWork openToWork standing cleared
     afterLast afterFirst any anyThenNone
 word-cases = record {
   under-1 = refl;
@@ -43,6 +43,9 @@ word-cases = record {
   other-turnout = refl;
   reverse = refl;
   not-reverse = refl;
+  covers-one = refl;
+  covers-one-2 = refl;
+  alone = refl;
   lacks-4 = refl;
   lacks-6 = refl;
 }

@@ -46,9 +46,9 @@ naming kind time id a b d0 = record {
   d5 = 0;
 }
 
--- a clearance: turnout, declaration, position, clamp, medium
-abbrev pub clearance : ℕ → ℕ → ℕ → ℕ → ℕ → ℕ → ℕ → Message
-clearance time train turnout declaration position clamp medium = record {
+-- a clearance: turnout, declaration, position, clamp, medium, and 1 where it covers both ends
+abbrev pub clearance : ℕ → ℕ → ℕ → ℕ → ℕ → ℕ → ℕ → ℕ → Message
+clearance time train turnout declaration position clamp medium both = record {
   kind = 6;
   zone = 0;
   time = time;
@@ -60,13 +60,18 @@ clearance time train turnout declaration position clamp medium = record {
   d2 = position;
   d3 = clamp;
   d4 = medium;
-  d5 = 0;
+  d5 = both;
 }
 
--- a clearance in the normal position
+-- a clearance in the normal position that does not cover both ends
 abbrev pub clearing : ℕ → ℕ → ℕ → ℕ → ℕ → ℕ → Message
 clearing time train turnout declaration clamp medium =
-    clearance time train turnout declaration 0 clamp medium
+    clearance time train turnout declaration 0 clamp medium 0
+
+-- a clearance in the normal position, without a clamp, by voice
+abbrev pub declaring : ℕ → ℕ → ℕ → ℕ → ℕ → Message
+declaring time train turnout declaration both =
+    clearance time train turnout declaration 0 0 1 both
 
 -- station K's records 1, 2, 3, 4, 6, 8, 10 and 11, which are accepted
 abbrev pub acceptedK : List Message
@@ -94,14 +99,18 @@ upTo8 = take 6 acceptedK
 abbrev pub upTo10 : List Message
 upTo10 = take 7 acceptedK
 
--- a station of 3 turnouts, none of them tied, and two routes over {0} with flank {2}: 0 with none
--- reverse, 1 with turnout 2 reverse. The words look at its routes alone
+-- a station of 3 turnouts, 0 and 1 a crossover and 2 alone, and two routes over {0} with flank {2}:
+-- 0 with none reverse, 1 with turnout 2 reverse. The words look at counts, routes and partners alone
 abbrev pub twoRoutes : Station
 twoRoutes = record {
   turnouts = 3;
   routes = 2;
   zones = 1;
-  turnout = replicate 64 emptyTurnout;
+  turnout =
+      record { zone = 0; partner = 1; drive = 0 }
+      ∷ record { zone = 0; partner = 0; drive = 0 }
+      ∷ record { zone = 0; partner = 255; drive = 1 }
+      ∷ replicate 61 emptyTurnout;
   route =
       record { zone = 0; over = 1; flank = 4; exits = 0; reverse = 0 }
       ∷ record { zone = 0; over = 1; flank = 4; exits = 0; reverse = 4 }
@@ -175,14 +184,18 @@ pub record WordCases : Type 0 where
   pub of-route : at012 (ofItsRoute twoRoutes (asked 0)) ≡ true ∷ false ∷ true ∷ []
   -- declaration 1 or 2 counts and 3 does not; nor does another train, another position or another
   -- turnout
-  pub well : counts 0 0 (clearing 115 512 0 1 0 1) ≡ true
-  pub well-2 : counts 0 0 (clearing 115 512 0 2 0 1) ≡ true
-  pub declaration-3 : counts 0 0 (clearing 115 512 0 3 0 1) ≡ false
-  pub other-train : counts 0 0 (clearing 115 513 0 1 0 1) ≡ false
-  pub other-position : counts 0 0 (clearance 115 512 0 1 1 0 1) ≡ false
-  pub other-turnout : counts 0 0 (clearing 115 512 2 1 0 1) ≡ false
-  pub reverse : counts 1 2 (clearance 115 512 2 1 1 0 1) ≡ true
-  pub not-reverse : counts 1 2 (clearing 115 512 2 1 0 1) ≡ false
+  pub well : counts 0 0 (declaring 115 512 0 1 1) ≡ true
+  pub well-2 : counts 0 0 (declaring 115 512 0 2 1) ≡ true
+  pub declaration-3 : counts 0 0 (declaring 115 512 0 3 1) ≡ false
+  pub other-train : counts 0 0 (declaring 115 513 0 1 1) ≡ false
+  pub other-position : counts 0 0 (clearance 115 512 0 1 1 0 1 1) ≡ false
+  pub other-turnout : counts 0 0 (declaring 115 512 2 1 1) ≡ false
+  pub reverse : counts 1 2 (clearance 115 512 2 1 1 0 1 0) ≡ true
+  pub not-reverse : counts 1 2 (declaring 115 512 2 1 0) ≡ false
+  -- on turnout 0, which has a partner, it counts only where it covers both ends; turnout 2 is alone
+  pub covers-one : counts 0 0 (declaring 115 512 0 1 0) ≡ false
+  pub covers-one-2 : counts 0 0 (declaring 115 512 0 2 0) ≡ false
+  pub alone : counts 0 2 (declaring 115 512 2 1 0) ≡ true
   -- turnout 0 lacks a clearance until it has one
   pub lacks-4 : at012 (lacks twoRoutes (take 4 acceptedK) (asked 0) []) ≡ true ∷ false ∷ false ∷ []
   pub lacks-6 :

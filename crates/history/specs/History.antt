@@ -8,7 +8,7 @@ use Prim.Native.Nat.{ℕ}
 use lib.Dec.{eqb}
 use Rattle.sets.specs.Sets.{has}
 use Rattle.station.specs.declared.Station.{Station}
-use Rattle.station.specs.Station.{theRoute, namedBy}
+use Rattle.station.specs.Station.{theRoute, namedBy, hasPartner}
 use Rattle.message.specs.declared.Message.{Message}
 use Rattle.history.specs.Since.{Since, never, since, afterLast, afterFirst, any, anyThenNone}
 
@@ -90,14 +90,21 @@ cleared t H = clearedAfter t (standing H)
 abbrev pub ofItsRoute : Station → Message → ℕ → Bool
 ofItsRoute st f t = has (namedBy (theRoute st (f .d0))) t
 
+-- "declaration 1 or 2"; document 02, M-101: "'All efficient' in the history of a movement then also
+-- needs d5 = 1 on a turnout with a partner."
+abbrev pub allEfficient : Station → ℕ → Message → Bool
+allEfficient st t m =
+    (eqb (m .d1) 1 || eqb (m .d1) 2) && (not (hasPartner st t) || eqb (m .d5) 1)
+
 -- "Clearance for that train, in the route's position, all efficient: after that 5 a 6 naming the
--- turnout, with the same id, d2 1 if in the route's reverse and else 0, declaration 1 or 2."
+-- turnout, with the same id, d2 1 if in the route's reverse and else 0, declaration 1 or 2", and
+-- both ends covered where the turnout has a partner
 abbrev pub clearsWell : Station → Message → ℕ → Message → Bool
 clearsWell st f t m =
     clears t m
     && eqb (m .id) (f .id)
     && eqb (m .d2) (cond (has (theRoute st (f .d0) .reverse) t) 1 0)
-    && (eqb (m .d1) 1 || eqb (m .d1) 2)
+    && allEfficient st t m
 
 -- "each turnout of its route under agreed work has, among the messages accepted since that movement
 -- was asked, a clearance for that train in the route's position with rods, lock and detection all

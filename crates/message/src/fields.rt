@@ -45,13 +45,14 @@ fn first_detail(m: Message, least: u8, most: u8) -> bool
     in_span(m.d0, least, most) & no_more_details(m)
 }
 
-// The details of a clearance: turnout, declaration, position, clamp, voice or written.
+// The details of a clearance: turnout, declaration, position, clamp, voice or written, whether it covers both ends.
 fn clearance_details(m: Message) -> bool
     ensures { λ r. ⌜ r ≡ detailsKept clearanceSpans (details m) ⌝ }
 {
     in_span(m.d0, 0, 63)
         & (in_span(m.d1, 1, 9)
-            & (in_span(m.d2, 0, 1) & (in_span(m.d3, 0, 2) & (in_span(m.d4, 1, 2) & (m.d5 == 0)))))
+            & (in_span(m.d2, 0, 1)
+                & (in_span(m.d3, 0, 2) & (in_span(m.d4, 1, 2) & in_span(m.d5, 0, 1)))))
 }
 
 // Whether no set is named: both are empty.

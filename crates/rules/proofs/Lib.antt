@@ -1,1 +1,2 @@
 pub mod ByRecords
+pub mod Fits

@@ -1,4 +1,4 @@
--- The desks that document 01 turns down do not meet demand 3, shown on station K.
+-- The desks that documents 01 and 02 turn down do not meet demand 3, shown on station K.
 use mathlib.Core.Bool.{true, false, true≢false}
 use mathlib.Core.List.{List, [], _∷_}
 use mathlib.Core.Path.{_≡_, refl, sym, ap, _∙_}
@@ -6,17 +6,21 @@ use Prim.Native.Nat.{ℕ}
 use lib.ListN.{take}
 use Rattle.sets.specs.Sets.{has}
 use Rattle.station.specs.declared.Station.{Station}
+use Rattle.zone.specs.declared.Regime.the-variants.{Clear}
 use Rattle.zone.specs.Movement.{isClear}
 use Rattle.desk.specs.declared.Desk.{Desk}
 use Rattle.desk.specs.declared.MovementAnswer.{MovementAnswer}
 use Rattle.desk.specs.declared.WorkAnswer.{WorkAnswer}
 use Rattle.history.specs.Since.{since, afterLast, afterFirst, any, anyThenNone}
 use Rattle.history.specs.History.{underAgreedWork, openToWork, standing}
-use Rattle.history.specs.Lists.{Input, message, after, accepted, ofZone, zoneMessages}
+use Rattle.history.specs.Lists.{Input, Model, message, after, accepted, ofZone, deskAfter}
+use Rattle.history.specs.Lists.{zoneMessages}
 use Rattle.history.specs.Demand3.{ours, Demand3}
 use Rattle.history.specs.Cases.{asked}
-use Rattle.worked_cases.specs.StationK.{sheetK, stationK, recordsK}
+use Rattle.worked_cases.specs.StationK.{sheetK, stationK, recordsK, cleared0, oneEndCleared}
+use Rattle.worked_cases.specs.StationK.{oneEndHeard}
 use Rattle.worked_cases.specs.OtherDesks.{answeringMovements, keepingNothing, staysFresh}
+use Rattle.worked_cases.specs.OtherDesks.{takesForBoth}
 use Rattle.worked_cases.proofs.StationK.{station-k}
 
 -- a movement on the fresh desk of station K
@@ -67,3 +71,30 @@ stays-fresh-fails demand =
     (λ t named under. absurd (nothing-worked t (sym (ap (underAgreedWork t) heard) ∙ under))) in
     let answer = ap (λ (a : MovementAnswer). isClear (a .regime)) (station-k .fresh-movement) in
     true≢false (sym (ap isClear clear) ∙ answer)
+
+-- the movement stands there, and turnout 0 is under agreed work
+stands-there : standing oneEndCleared ≡ since (asked 0) (cleared0 1 0 ∷ [])
+unfolding standing afterLast any
+stands-there = refl
+
+worked-there : underAgreedWork 0 oneEndCleared ≡ true
+unfolding underAgreedWork afterLast afterFirst any has
+worked-there = refl
+
+-- whatever desk accepts a clearance of declaration 1 that covers one end of a crossover, and then
+-- answers clear, does not meet demand 3
+pub one-end-fails :
+    (D : Model) → zoneMessages D stationK oneEndHeard 0 ≡ oneEndCleared
+    → D .movement stationK (deskAfter D stationK oneEndHeard) 0 512 .regime ≡ Clear
+    → Demand3 D → ⊥
+one-end-fails D heard clear demand =
+    let there = demand sheetK (station-k .sheet) oneEndHeard in
+    let stands = ap standing heard ∙ stands-there in
+    let each = there .clear 0 (asked 0) (cleared0 1 0 ∷ []) stands .0 clear in
+    let worked = ap (underAgreedWork 0) heard ∙ worked-there in
+    true≢false (sym (each 0 (station-k .of-route-0) worked) ∙ station-k .not-well)
+
+-- such a desk
+pub takes-for-both-fails : Demand3 takesForBoth → ⊥
+takes-for-both-fails =
+    one-end-fails takesForBoth (station-k .taken-for-both) (station-k .clear-for-both)

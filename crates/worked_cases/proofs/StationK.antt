@@ -5,7 +5,7 @@ use Rattle.sets.specs.Sets.{has, single, setOf}
 use Rattle.sets.specs.Table.{valuesFrom, places}
 use Rattle.message.specs.Fields.{named, fieldsKept, fieldNumber}
 use Rattle.message.specs.Record.{decoded, headBytes, encoded, readRecord}
-use Rattle.station.specs.Station.{tiedWith, tied, zoneTurnouts, theRoute, splits}
+use Rattle.station.specs.Station.{tiedWith, tied, hasPartner, zoneTurnouts, theRoute, splits}
 use Rattle.layout.specs.Layout.{headerNumber, stationIn}
 use Rattle.sheet.specs.Partners.{goodTurnout, badTurnout}
 use Rattle.sheet.specs.Sheet.{goodRoute, badRoute, routesJudged, judged, readSheet}
@@ -22,6 +22,7 @@ use Rattle.desk.specs.Questions.{movementAnswered, workAnswered}
 use Rattle.journal.specs.Journal.{isJournal, journalNumber, counted, recordsFrom, records}
 use Rattle.report.specs.Answers.{withAnswer}
 use Rattle.report.specs.Text.{digits, decimal, lineOf, linesFrom, textOf}
+use Rattle.history.specs.Since.{any}
 use Rattle.history.specs.Lists.{after, answers, accepted, ofZone}
 use Rattle.replay.specs.Replay.{inputsOf, storedFrom, ran, replayed}
 use Rattle.worked_cases.specs.StationK.{Cases}
@@ -33,7 +34,7 @@ unfolding readSheet headerNumber stationIn places valuesFrom judged routesJudged
     readRecord decoded headBytes encoded named fieldsKept fieldNumber
     heard heardOn answered row workAfter moved movementUnder noPlace namedStanding clearedStanding
     placed changed recorderAfter minutesFor minutesBetween zoneAfter
-    zoneTurnouts setOf splits theRoute regimeOn clearanceFits
+    zoneTurnouts setOf splits theRoute hasPartner regimeOn clearanceFits any
     freshDesk movementAnswered workAnswered
     isJournal journalNumber counted recordsFrom records
     inputsOf replayed ran storedFrom withAnswer
@@ -65,6 +66,15 @@ station-k = record {
   signal-1 = refl;
   signal-2 = refl;
   line-2 = refl;
+  covers-one = refl;
+  covers-both = refl;
+  covers-one-2 = refl;
+  covers-both-2 = refl;
+  covers-both-3 = refl;
+  alone-covers-both = refl;
+  alone-covers-itself = refl;
+  d5-2 = refl;
+  alone-d5-2 = refl;
   heard-3 = refl;
   heard-6 = refl;
   heard-8 = refl;
@@ -72,4 +82,8 @@ station-k = record {
   heard-11 = refl;
   fresh-movement = refl;
   only-movement = refl;
+  of-route-0 = refl;
+  not-well = refl;
+  taken-for-both = refl;
+  clear-for-both = refl;
 }

@@ -1,2 +1,2 @@
-pub mod StationK
 pub mod OtherDesks
+pub mod StationK

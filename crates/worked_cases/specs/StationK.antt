@@ -1,4 +1,5 @@
--- Station K: the cases that document 01 marks *, as one statement over the written rules.
+-- Station K: the cases that document 01 marks *, and those worked for document 02's requests, as
+-- one statement over the written rules.
 use mathlib.Core.Bool.{Bool, true, false}
 use mathlib.Core.List.{List, [], _∷_, _++_, map, foldr}
 use mathlib.Core.Path.{_≡_}
@@ -13,11 +14,16 @@ use Rattle.desk.specs.Desk.{freshDesk}
 use Rattle.desk.specs.Questions.{movementRefused, movementAnswered, workAnswered}
 use Rattle.journal.specs.Journal.{counted, records}
 use Rattle.report.specs.Text.{textOf}
-use Rattle.history.specs.Lists.{Input, message, bytes, Reply, after, answers, zoneMessages}
+use Rattle.zone.specs.declared.Regime.the-variants.{Clear}
+use Rattle.history.specs.Since.{any}
+use Rattle.history.specs.History.{ofItsRoute, clearsWell}
+use Rattle.history.specs.Lists.{Input, message, bytes, Reply, after, answers, deskAfter}
+use Rattle.history.specs.Lists.{zoneMessages}
 use Rattle.history.specs.Demand3.{ours}
 use Rattle.history.specs.Cases.{plain, naming, clearing, acceptedK, upTo3, upTo6, upTo8, upTo10}
-use Rattle.history.specs.Cases.{asked}
+use Rattle.history.specs.Cases.{asked, declaring}
 use Rattle.replay.specs.Replay.{replayed}
+use Rattle.worked_cases.specs.OtherDesks.{takesForBoth}
 
 -- "P = 3, Z = 1, R = 1; 0 and 1 an electric crossover, 2 alone by hand; route 0 runs over {0},
 -- flank {2}, reverse empty: 50 bytes."
@@ -114,6 +120,30 @@ recorderOut = verbalMovement ++ (naming 12 25 0 0 0 0 ∷ [])
 abbrev restored : ℕ → List Message
 restored time = verbal ++ (plain 11 time 9 ∷ [])
 
+-- {0,1} agreed under M.45, and a movement over route 0
+abbrev pub crossover : List Message
+crossover = naming 1 0 7 3 0 1 ∷ plain 2 90 7 ∷ asked 0 ∷ []
+
+-- there a clearance of turnout 0, given the declaration and 1 where it covers both ends
+abbrev pub cleared0 : ℕ → ℕ → Message
+cleared0 declaration both = declaring 115 512 0 declaration both
+
+-- and under verbal one of turnout 2
+abbrev cleared2 : ℕ → ℕ → Message
+cleared2 declaration both = declaring 30 600 2 declaration both
+
+-- turnout 0 cleared by a declaration 1 that covers one end
+abbrev pub oneEndCleared : List Message
+oneEndCleared = crossover ++ (cleared0 1 0 ∷ [])
+
+abbrev pub oneEndHeard : List Input
+oneEndHeard = map message oneEndCleared
+
+-- a message after three that were accepted, and the number it gets
+abbrev GetsFourth : List Message → Message → ℕ → Type 0
+GetsFourth ms m code =
+    answersK (ms ++ (m ∷ [])) ≡ reply 0 0 ∷ reply 0 0 ∷ reply 0 0 ∷ reply code 0 ∷ []
+
 pub record Cases : Type 0 where
   pub sheet : readSheet sheetK .code ≡ 0
   pub output :
@@ -178,6 +208,18 @@ pub record Cases : Type 0 where
   pub signal-1 : Verdicts.judged 1 1 2 ≡ record { code = 0; verdict = 3 }
   pub signal-2 : Verdicts.judged 1 2 2 ≡ record { code = 0; verdict = 2 }
   pub line-2 : Verdicts.judged 2 1 2 ≡ record { code = 0; verdict = 5 }
+  -- document 02, M-101: "Declarations 1 and 2 on a turnout with a partner need d5 = 1. In every
+  -- other clearance d5 is 0. A clearance breaking this gets 20; a d5 above 1 gets 13." Turnout 0 is
+  -- one end of a crossover, turnout 2 is alone
+  pub covers-one : GetsFourth crossover (cleared0 1 0) 20
+  pub covers-both : GetsFourth crossover (cleared0 1 1) 0
+  pub covers-one-2 : GetsFourth crossover (cleared0 2 0) 20
+  pub covers-both-2 : GetsFourth crossover (cleared0 2 1) 0
+  pub covers-both-3 : GetsFourth crossover (cleared0 3 1) 20
+  pub alone-covers-both : GetsFourth verbalMovement (cleared2 1 1) 20
+  pub alone-covers-itself : GetsFourth verbalMovement (cleared2 1 0) 0
+  pub d5-2 : GetsFourth crossover (cleared0 1 2) 13
+  pub alone-d5-2 : GetsFourth verbalMovement (cleared2 1 2) 13
   -- the accepted messages after records 3, 6, 8, 10 and 11 are those that the history's words are
   -- tried on
   pub heard-3 : heardK 3 ≡ upTo3
@@ -188,3 +230,11 @@ pub record Cases : Type 0 where
   -- on the fresh desk no movement stands, and one that is asked for is accepted
   pub fresh-movement : movementAnswered stationK freshDesk 0 512 ≡ movementRefused 15
   pub only-movement : zoneMessages ours stationK (message (asked 0) ∷ []) 0 ≡ asked 0 ∷ []
+  -- turnout 0 is of the route, and a clearance of declaration 1 that covers one end does not count
+  pub of-route-0 : ofItsRoute stationK (asked 0) 0 ≡ true
+  pub not-well : any (clearsWell stationK (asked 0) 0) (cleared0 1 0 ∷ []) ≡ false
+  -- a desk that takes it for one that covers both accepts it and answers clear
+  pub taken-for-both : zoneMessages takesForBoth stationK oneEndHeard 0 ≡ oneEndCleared
+  pub clear-for-both :
+      takesForBoth .movement stationK (deskAfter takesForBoth stationK oneEndHeard) 0 512 .regime
+      ≡ Clear

@@ -12,6 +12,7 @@ returns c =
       c .before .before .before .in-span3 .ensures,
       c .before .before .in-span4 .ensures,
       c .before .in-span5 .ensures,
+      c .in-span6 .ensures,
       and-true,
     )
 
@@ -19,6 +20,7 @@ pub clearance-details-spec : {M : Type 1} → statement M
 clearance-details-spec =
     tie.close
     (tie.spec
+    (λ c κs. search needs)
     (λ c κs. search needs)
     (λ c κs. search needs)
     (λ c κs. search needs)

@@ -6,12 +6,15 @@ use Rattle.rules.proofs.clearances.clearance_fits.Tie as tie
 returns : tie.Need-returns
 unfolding clearanceFits
 returns c =
+    let partner = c .before .before .before .before in
     rw (
-      c .clamp-fits .ensures,
-      c .before .drive-fits .ensures,
-      c .before .before .position-fits .ensures,
-      c .before .before .before .drive-of .ensures,
-      c .before .before .before .before .before .contains .ensures,
+      c .ends-fit .ensures,
+      c .before .clamp-fits .ensures,
+      c .before .before .drive-fits .ensures,
+      c .before .before .before .position-fits .ensures,
+      partner .has-partner .ensures,
+      partner .before .before .drive-of .ensures,
+      partner .before .before .before .before .contains .ensures,
     )
 
 pub clearance-fits-spec : {M : Type 1} → statement M
@@ -21,6 +24,9 @@ clearance-fits-spec =
     (λ c. search needs)
     (λ c κs. search needs)
     (λ c. search needs)
+    (λ c κs. search needs)
+    (λ c. search needs)
+    (λ c κs. search needs)
     (λ c κs. search needs)
     (λ c κs. search needs)
     (λ c κs. search needs)

@@ -69,11 +69,11 @@ const SHARED: [Case; 30] = [
     Case(D5, 255),
 ];
 
-pub const OWN_COUNT: usize = 30;
+pub const OWN_COUNT: usize = 31;
 
 // The cases of one kind: the ends of the ranges of its details and the values next to them, bad kinds, and bad fields
 // under a bad kind.
-const OWN: [OwnCase; 30] = [
+const OWN: [OwnCase; 31] = [
     OwnCase(1, D0, 2),
     OwnCase(1, D0, 3),
     OwnCase(1, KIND, 0),
@@ -90,6 +90,7 @@ const OWN: [OwnCase; 30] = [
     OwnCase(6, D3, 3),
     OwnCase(6, D4, 2),
     OwnCase(6, D4, 3),
+    OwnCase(6, D5, 2),
     OwnCase(6, KIND, 0),
     OwnCase(6, KIND, 13),
     OwnCase(6, KIND, 255),

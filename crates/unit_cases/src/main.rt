@@ -1,7 +1,7 @@
 // Tries the unit on station K of document 01. The unit is proved to follow the rules in its crate's specs/; what this
-// program writes shows that these rules give the answers that the document does, and that a desk's bytes stand where
-// the layout says.
-// Station K is in data/, the cases are in stdin and the expected lines in stdout, written from the document and the
+// program writes shows that these rules give the answers that documents 01 and 02 do, and that a desk's bytes stand
+// where the layout says.
+// Station K is in data/, the cases are in stdin and the expected lines in stdout, written from the documents and the
 // layout; no expected number stands here.
 //
 // One desk is kept from row to row, in a buffer of 521 bytes that are 7 at first. A row of the input that starts with

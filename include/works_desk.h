@@ -29,8 +29,8 @@
 extern "C" {
 #endif
 
-/* The version of this interface, raised when a call, a code or a packing changes. */
-#define DESK_INTERFACE_VERSION 2
+/* The version of this interface, raised when a call, a code, a packing or a field of a record changes. */
+#define DESK_INTERFACE_VERSION 3
 
 /* The version of a desk's 520 bytes, their byte 0. */
 #define DESK_BYTES_VERSION 1
@@ -67,7 +67,7 @@ enum desk_number {
     DESK_E_PLACE = 17,         /* turnouts or route that the message may not name */
     DESK_E_STAGE = 18,         /* the work or the movement is at another stage */
     DESK_E_CONFLICT = 19,      /* a standing movement names a turnout of the work; a cleared turnout would be opened */
-    DESK_E_CLEARANCE = 20,     /* a clearance that does not fit its turnout */
+    DESK_E_CLEARANCE = 20,     /* a clearance that does not fit its turnout: position, drive, clamp or ends */
     DESK_E_MEDIUM = 21,        /* voice without a working recorder, or written with one */
     DESK_E_NOT_ALLOWED = 22,   /* not allowed under this form or this regime */
     DESK_E_NO_JOURNAL = 30,    /* no journal: its length, mark, version, count or zeros */
@@ -110,7 +110,9 @@ enum desk_kind {
     DESK_KIND_DETECTION_OFF = 4,   /* a: detection lost; b: portable device */
     DESK_KIND_MOVEMENT_ASKED = 5,  /* d0: route, 0 to 63 */
     DESK_KIND_CLEARED = 6,         /* d0: turnout, 0 to 63; d1: declaration, 1 to 9; d2: 0 normal, 1 reverse;
-                                      d3: 0 no clamp, 1 clamp, 2 attended; d4: 1 voice, 2 written */
+                                      d3: 0 no clamp, 1 clamp, 2 attended; d4: 1 voice, 2 written;
+                                      d5: 1 where declaration 1 or 2 is given for a turnout with a partner and covers both
+                                      ends of the crossover, which it must there; else 0 */
     DESK_KIND_ORDERED = 7,         /* d0: 1 signals clear, 2 at danger */
     DESK_KIND_PASSED = 8,
     DESK_KIND_CANCELLED = 9,

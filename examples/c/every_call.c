@@ -162,6 +162,38 @@ static void check_unit(void)
     }
 }
 
+/*
+ * Writes a clearance of turnout 0 for train 512: declaration 1 (all efficient), normal position, no clamp, by voice; ends is 1 if it covers
+ * both ends of a crossover.
+ */
+static uint8_t write_clearance(uint8_t ends)
+{
+    return desk_write_record(DESK_KIND_CLEARED, 0, 60, 512, 0, 0, 0, 1, 0, 0, 1, ends, record, sizeof record);
+}
+
+/* The station with turnouts 0 and 1 as a crossover: work is on both ends, and declaration 1 must cover both. */
+static void check_crossover(void)
+{
+    uint8_t crossover[sizeof sheet];
+    memcpy(crossover, sheet, sizeof sheet);
+    crossover[9] = 1;  /* turnout 0's partner */
+    crossover[12] = 0; /* turnout 1's partner */
+    CHECK(unit_fresh(desk, sizeof desk), DESK_E_ACCEPTED);
+    for (size_t n = 0; n < STANDING; n++) {
+        write_message(n, sizeof record);
+        record[17] = messages[n].a != 0 ? 3 : 0; /* the last byte of a */
+        CHECK(unit_apply(crossover, sizeof crossover, desk, sizeof desk, record, sizeof record), DESK_E_ACCEPTED);
+    }
+    CHECK(write_clearance(2), DESK_E_FIELD);
+    CHECK(write_clearance(0), DESK_E_ACCEPTED);
+    CHECK(unit_apply(crossover, sizeof crossover, desk, sizeof desk, record, sizeof record), DESK_E_CLEARANCE);
+    CHECK(desk_lowest(unit_movement(crossover, sizeof crossover, desk, sizeof desk, 0, 512)), 0);
+    CHECK(write_clearance(1), DESK_E_ACCEPTED);
+    CHECK(unit_apply(crossover, sizeof crossover, desk, sizeof desk, record, sizeof record), DESK_E_ACCEPTED);
+    check_standing(unit_movement(crossover, sizeof crossover, desk, sizeof desk, 0, 512),
+                   unit_work(crossover, sizeof crossover, desk, sizeof desk, 1));
+}
+
 static void check_verdict(void)
 {
     CHECK(desk_verdict(4, 0, 0), DESK_E_SIGNAL_RANGE);
@@ -177,6 +209,7 @@ int main(void)
     check_replay();
     check_questions();
     check_unit();
+    check_crossover();
     check_verdict();
     if (differences != 0) {
         return 1;

@@ -120,6 +120,11 @@ impl Message {
         Message { b: set::of(turnouts), ..self }
     }
 
+    /// A clearance that covers both ends. 02, M-101.
+    pub fn both_ends(self) -> Message {
+        self.d(5, 1)
+    }
+
     /// Detail `n` replaced.
     pub fn d(mut self, n: usize, value: u8) -> Message {
         self.d[n] = value;
@@ -147,7 +152,7 @@ pub fn movement_asked(train: u32, route: u8) -> Message {
     message(5, train).d(0, route)
 }
 
-/// Turnout, declaration, position, clamp, channel.
+/// Turnout, declaration, position, clamp, channel; d5 is 0.
 pub fn cleared(train: u32, [turnout, declaration, position, clamp, channel]: [u8; 5]) -> Message {
     Message { d: [turnout, declaration, position, clamp, channel, 0], ..message(6, train) }
 }

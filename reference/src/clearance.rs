@@ -1,4 +1,5 @@
-//! Clearances of turnouts for a train: what fits (20), by which channel (21). 01: "Clearances fit (20) when ..".
+//! Clearances of turnouts for a train: what fits (20), by which channel (21). 01: "Clearances fit (20) when ..";
+//! 02, M-101: both ends of a crossover.
 
 use crate::set::holds;
 use crate::station::{Drive, Route};
@@ -30,14 +31,18 @@ pub struct Clearance {
     pub position: Position,
     pub clamp: Clamp,
     pub channel: Channel,
+    /// 02, M-101: "1 says the declaration covers both ends".
+    pub covers_both_ends: bool,
 }
 
 impl Clearance {
     /// 01: "Clearances fit (20) when d2 is the route's position, d1 fits the drive .. and so does d3."
-    pub fn fits(&self, route: &Route, drive: Drive) -> bool {
+    /// 02, M-101: "A clearance breaking this gets 20".
+    pub fn fits(&self, route: &Route, drive: Drive, has_partner: bool) -> bool {
         self.position == route.position(self.turnout)
             && self.fits_drive(drive)
             && self.clamp_fits(holds(route.run_over, self.turnout))
+            && self.ends_fit(has_partner)
     }
 
     /// 01: "1, 2 either; 3-6 electric; 7-9 hand; Annex C".
@@ -56,6 +61,11 @@ impl Clearance {
             (8, true) => self.clamp != Clamp::None,
             _ => self.clamp == Clamp::None,
         }
+    }
+
+    /// 02, M-101: "Declarations 1 and 2 on a turnout with a partner need d5 = 1. In every other clearance d5 is 0."
+    pub fn ends_fit(&self, has_partner: bool) -> bool {
+        self.covers_both_ends == (has_partner && self.all_efficient())
     }
 
     /// 01: "Declarations 1 and 2 mean all efficient".

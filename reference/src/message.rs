@@ -123,7 +123,7 @@ impl Message {
             (3, 0, 0, [0, 0, 0, 0, 0, 0]) => Content::Withdrawn,
             (4, lost, portable, [0, 0, 0, 0, 0, 0]) => Content::DetectionOff { lost, portable },
             (5, 0, 0, [route @ 0..=63, 0, 0, 0, 0, 0]) => Content::MovementAsked { route },
-            (6, 0, 0, [turnout @ 0..=63, declaration @ 1..=9, d2, d3, d4, 0]) => {
+            (6, 0, 0, [turnout @ 0..=63, declaration @ 1..=9, d2, d3, d4, d5]) => {
                 let position = match d2 {
                     0 => Position::Normal,
                     1 => Position::Reverse,
@@ -140,7 +140,13 @@ impl Message {
                     2 => Channel::Written,
                     _ => return None,
                 };
-                Content::Cleared(Clearance { turnout, declaration, position, clamp, channel })
+                // 02, M-101: "In a clearance d5 becomes a field of 0 or 1"; "a d5 above 1 gets 13".
+                let covers_both_ends = match d5 {
+                    0 => false,
+                    1 => true,
+                    _ => return None,
+                };
+                Content::Cleared(Clearance { turnout, declaration, position, clamp, channel, covers_both_ends })
             }
             (7, 0, 0, [1, 0, 0, 0, 0, 0]) => Content::Ordered(Aspect::Clear),
             (7, 0, 0, [2, 0, 0, 0, 0, 0]) => Content::Ordered(Aspect::Danger),

@@ -60,6 +60,13 @@ impl Station {
         numbered.filter(|(_, turnout)| turnout.zone == zone).fold(0, |set, (n, _)| set | only(n))
     }
 
+    /// 02, M-101: "a turnout with a partner". By the station alone: the turnout is below P, and so is the partner
+    /// that it names.
+    pub fn has_partner(&self, n: u8) -> bool {
+        let partner = self.turnout(n).and_then(|turnout| turnout.partner);
+        partner.is_some_and(|partner| self.turnout(partner).is_some())
+    }
+
     /// Does the set hold one end of a crossover without the other?
     pub fn splits_crossover(&self, set: Set) -> bool {
         members(set).any(|n| match self.turnout(n).and_then(|turnout| turnout.partner) {

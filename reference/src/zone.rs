@@ -232,7 +232,7 @@ impl<'s> Zone<'s> {
         let worked = holds(self.work.agreed_turnouts(), n);
         let named = holds(train.route.named(), n);
         let turnout = station.turnout(n).filter(|_| worked && named).ok_or(Refusal::Place)?;
-        refuse(!clearance.fits(train.route, turnout.drive), Refusal::Unfit)?;
+        refuse(!clearance.fits(train.route, turnout.drive, station.has_partner(n)), Refusal::Unfit)?;
         refuse(!clearance.channel_fits(self.recorder_working), Refusal::Channel)?;
         train.cleared |= only(n);
         if clearance.all_efficient() {

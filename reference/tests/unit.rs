@@ -1,6 +1,6 @@
 //! The unit: station K record by record over 520 bytes, and bytes that are no desk.
 
-use reference::builders::{agreed, journal_k, station_k};
+use reference::builders::{agreed, cleared, journal_k, station_k};
 use reference::desk::Desk;
 use reference::sheet;
 use reference::station::Station;
@@ -69,6 +69,24 @@ fn layout() {
     let station = station();
     let desk = unit::decode(&station, &after(8)).expect("a desk's bytes");
     assert_eq!(unit::encode(&desk), after(8));
+}
+
+/// 02, M-101: d5 is judged, not stored. An accepted clearance leaves its turnout cleared and, for declaration 1,
+/// efficient; one refused for its d5 leaves the bytes as they were.
+#[test]
+fn both_ends() {
+    let sheet = station_k().bytes();
+    let clearance = cleared(512, [0, 1, 0, 0, 1]).at(115);
+    let mut bytes = after(5);
+    for (d5, code) in [(0, 20), (2, 13)] {
+        assert_eq!(unit::apply(&sheet, &mut bytes, &clearance.d(5, d5).to_bytes()), (code, 0));
+        assert_eq!(bytes, after(5));
+    }
+    assert_eq!(unit::apply(&sheet, &mut bytes, &clearance.both_ends().to_bytes()), (0, 0));
+    let mut expected = after(6);
+    expected[8 + 48] = 1;
+    assert_eq!(bytes, expected);
+    assert_eq!(unit::movement_at(&station(), &bytes, 0, 512), [0, 1, 255, 0]);
 }
 
 #[test]

@@ -120,7 +120,7 @@ fn random_records(random: &mut Random, count: u32) -> Vec<[u8; RECORD]> {
                     u64::from(pick(6) == 0),
                     pick(6).saturating_sub(3),
                     1 + u64::from(pick(4) == 0),
-                    0,
+                    [0, 0, 0, 1, 1, 2][pick(6) as usize],
                 ];
                 made.d = details.map(|detail| detail as u8);
             }
@@ -256,6 +256,23 @@ fn journal_of_station_k() {
     assert!(lines.iter().all(|line| shown.lines().any(|shown| shown == *line)), "{shown}");
 }
 
+/// 02, M-101: a d5 of 1 stands at the line's end, a d5 of 0 has no words, any other does not read.
+#[test]
+fn journal_with_both_ends() {
+    let clearance = cleared(512, [0, 1, 0, 0, 1]).at(115);
+    let shown = round_trip("both_ends", "journal", &journal(&[0, 1, 2, 255].map(|d5| clearance.d(5, d5))));
+    let line =
+        "clearance: time 115, zone 0, train 512, turnout 0, declaration 1, position normal, no clamp, medium voice";
+    let lines: Vec<&str> = shown.lines().skip(1).collect();
+    assert_eq!(lines[0], format!("{line}  # 1"));
+    assert_eq!(lines[1], format!("{line}, covers both ends  # 2"));
+    assert!(lines[2].starts_with("bytes: 06 00 00000073 00000200 "));
+    assert!(lines[2].ends_with(" 000100000102  # 3; does not read, 13: d5 is 2, not 0 or 1"), "{shown}");
+    assert!(lines[3].ends_with("# 4; does not read, 13: d5 is 255, not 0 or 1"), "{shown}");
+    let shown = round_trip("both_ends_other", "journal", &journal(&[passed(512).d(5, 1)]));
+    assert!(shown.ends_with("# 1; does not read, 13: d5 is 1, not 0\n"), "{shown}");
+}
+
 #[test]
 fn journal_with_unreadable_records() {
     let records = [message(13, 7), passed(0), agreed(7).a(&[63]).d(5, 9), recorder(1)].map(|record| record.to_bytes());
@@ -327,6 +344,18 @@ fn bad_journal_texts() {
             "line 2: expected 'signals clear' or 'signals danger'; found 'clear'",
         ),
         ("movement asked: time 1, zone 0, train 7, route 64", "line 2: expected 'route N', N from 0 to 63"),
+        (
+            "clearance: time 1, zone 0, train 7, turnout 0, declaration 1, position normal, no clamp, medium voice, x",
+            "line 2: expected 'covers both ends' or the end of the line; found 'x'",
+        ),
+        (
+            "clearance: time 1, zone 0, train 7, turnout 0, declaration 1, position normal, no clamp, covers both ends",
+            "line 2: expected 'medium voice' or 'medium written'; found 'covers both ends'",
+        ),
+        (
+            "passed: time 1, zone 0, train 7, covers both ends",
+            "line 2: expected the end of the line; found 'covers both",
+        ),
         ("bytes: 0d00", "line 2: expected 32 bytes in hex; found '0d00'"),
     ];
     for (line, expected) in cases {
@@ -451,6 +480,61 @@ fn explanation_of_station_k() {
     }
 }
 
+/// 02, M-101: what d5 says, and why it makes a clearance unfit.
+#[test]
+fn explanation_of_both_ends() {
+    let folder = Folder::new("explain_ends");
+    let clearance =
+        |turnout: u8, declaration: u8| cleared(512, [turnout, declaration, 0, u8::from(declaration == 4), 1]);
+    let messages = [
+        work_asked(7, 1, &[0, 1, 2]),
+        agreed(7),
+        movement_asked(512, 0),
+        clearance(0, 1),
+        clearance(0, 4).both_ends(),
+        clearance(2, 8).both_ends(),
+        clearance(2, 3).both_ends().d(2, 1),
+        clearance(0, 1).both_ends(),
+        clearance(2, 2),
+    ];
+    let (sheet, journal) = (folder.file("sheet", station_k().bytes()), folder.file("journal", journal(&messages)));
+    let told = text(&["explain", &sheet, &journal]);
+    let parts: Vec<&str> = told.split("\nRecord ").skip(4).collect();
+    let rule = "declarations 1 and 2 on a crossover cover both ends, no other clearance does (Art. 3.24). Here: ";
+    let expected = [
+        [
+            "declaration 1 (all efficient), normal, no clamp, by voice.\n",
+            "Answer 20, 0 minutes: refused: position, declaration and clamp must fit",
+            "Here: declaration 1 on turnout 0, one end of a crossover, must cover both ends. Nothing altered.",
+        ],
+        [
+            "declaration 4 (lacks more than detection), normal, clamped, by voice, covering both ends.\n",
+            "Answer 20, 0 minutes: refused: ",
+            "Here: declaration 4 covers one turnout: it may not say that it covers both ends. Nothing altered.",
+        ],
+        [
+            "declaration 8 (lacks more than detection), normal, no clamp, by voice, covering both ends.\n",
+            rule,
+            "Here: turnout 2 is alone: there is no other end to cover. Nothing altered.",
+        ],
+        [
+            "Here: the route has turnout 2 normal; ",
+            "; declaration 3 does not fit the drive, hand with key lock; ",
+            "; turnout 2 is alone: there is no other end to cover. Nothing altered.",
+        ],
+        [
+            "declaration 1 (all efficient), normal, no clamp, by voice, covering both ends.\n",
+            "Answer 0, 0 minutes: accepted: ",
+            "and so do the ends it covers (Art. 3.24)",
+        ],
+        ["by voice.\n", "Answer 0, 0 minutes: accepted: ", "Regime: clear, {0,2} cleared as all efficient."],
+    ];
+    assert_eq!(parts.len(), expected.len());
+    for (part, expected) in parts.iter().zip(expected) {
+        assert!(expected.iter().all(|words| part.contains(words)), "{part}");
+    }
+}
+
 /// On random journals the explanation gives the answers of the replay, and every refusal a reason.
 #[test]
 fn explanation_of_random_journals() {
@@ -460,6 +544,7 @@ fn explanation_of_random_journals() {
     let sheet_path = folder.file("sheet", &sheet_bytes);
     let mut random = Random(2);
     let mut seen = BTreeSet::new();
+    let mut all_told = String::new();
     for _ in 0..24 {
         let records = random_records(&mut random, 1024);
         let journal = journal_of(&records);
@@ -474,6 +559,10 @@ fn explanation_of_random_journals() {
             assert!(!part.contains("does not read, 13: none"), "{part}");
             seen.insert((message::read(&record).map_or(0, |message| message.kind), number(&answer)));
         }
+        all_told += &told;
+    }
+    for ends in ["must cover both ends", "no other end to cover", "may not say that it covers", "covering both ends"] {
+        assert!(all_told.contains(ends), "{ends}");
     }
     let codes: BTreeSet<u8> = seen.iter().map(|(_, code)| *code).collect();
     assert_eq!(codes, BTreeSet::from([0, 11, 12, 13, 14, 15, 16, 17, 18, 19, 20, 21, 22]));

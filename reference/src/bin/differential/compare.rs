@@ -93,11 +93,13 @@ impl Comparison {
         let length = if self.rng.chance(5) { self.rng.within(0..=19) } else { self.rng.within(20..=120) };
         for _ in 0..length {
             let record = talk.next(&mut self.rng, &desk);
+            self.tally.ends.heard(&desk, &record);
             let answer = desk.hear_record(&record);
             self.tally.heard(record[0], number(&answer));
             heard.push((record, answer));
         }
         self.tally.lists += 1;
+        self.tally.ends.left(&desk);
         let records: Vec<[u8; RECORD]> = heard.iter().map(|(record, _)| *record).collect();
         let mut journal = journal_of(&records);
         let tail = self.rng.pick(&[0, 0, 1, 31, 32, 50]);

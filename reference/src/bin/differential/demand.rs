@@ -1,4 +1,5 @@
-//! Demand 3 on this implementation's own history: its four sentences, after a list.
+//! Demand 3 on this implementation's own history: its four sentences, after a list. 'All efficient' is that of
+//! 02, M-101.
 
 use reference::desk::Desk;
 use reference::history::History;

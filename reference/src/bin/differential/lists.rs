@@ -143,7 +143,7 @@ impl Place<'_, '_> {
         }
     }
 
-    /// A clearance that fits.
+    /// A clearance that fits, but for d5 now and then.
     fn clearance(&self, rng: &mut Rng, train: &Train, lacking: Set) -> Message {
         let turnout = rng.member(lacking);
         let electric = self.station.turnout(turnout).is_some_and(|turnout| turnout.drive == Drive::Electric);
@@ -156,10 +156,13 @@ impl Place<'_, '_> {
         };
         let position = u8::from(train.route.position(turnout) == Position::Reverse);
         let channel = if self.state.recorder_working { 1 } else { 2 };
-        builders::cleared(train.id, [turnout, declaration, position, clamp, channel])
+        // 02, M-101: "Declarations 1 and 2 on a turnout with a partner need d5 = 1. In every other clearance d5 is 0."
+        let due = u8::from(declaration <= 2 && self.station.has_partner(turnout));
+        let ends = rng.weighted(&[(85, due), (12, 1 - due), (3, 2)]);
+        builders::cleared(train.id, [turnout, declaration, position, clamp, channel]).d(5, ends)
     }
 
-    /// A message of any kind that reads, whatever the state.
+    /// A message of any kind that reads (a clearance's d5 may be 2), whatever the state.
     fn untimely(&self, rng: &mut Rng) -> Message {
         let kind = rng.within(1..=12) as u8;
         let form = match self.state.work {
@@ -193,7 +196,8 @@ impl Place<'_, '_> {
                 };
                 let declaration = rng.within(1..=9) as u8;
                 let (position, clamp) = (rng.within(0..=1) as u8, rng.within(0..=2) as u8);
-                Message { d: [turnout, declaration, position, clamp, rng.pick(&[1, 2]), 0], ..base }
+                let (channel, ends) = (rng.pick(&[1, 2]), rng.weighted(&[(5, 0), (5, 1), (1, 2)]));
+                Message { d: [turnout, declaration, position, clamp, channel, ends], ..base }
             }
             7 => base.d(0, rng.pick(&[1, 2])),
             12 => base.d(0, rng.pick(&[0, 1])),
@@ -249,12 +253,13 @@ fn part_weight(form: Form) -> u32 {
 
 /// One detail of a clearance changed to another good value.
 fn other_clearance(rng: &mut Rng, message: Message) -> Message {
-    let [_, _, position, _, channel, _] = message.d;
-    match rng.within(0..=3) {
+    let [_, _, position, _, channel, ends] = message.d;
+    match rng.within(0..=4) {
         0 => message.d(1, rng.within(1..=9) as u8),
         1 => message.d(2, 1 - position),
         2 => message.d(3, rng.within(0..=2) as u8),
-        _ => message.d(4, 3 - channel),
+        3 => message.d(4, 3 - channel),
+        _ => message.d(5, u8::from(ends == 0)),
     }
 }
 
@@ -264,7 +269,7 @@ fn near_miss(rng: &mut Rng, message: Message, last: u32) -> Message {
         return other_clearance(rng, message);
     }
     let bit = only(rng.within(0..=63) as u8);
-    match rng.within(0..=15) {
+    match rng.within(0..=16) {
         0 => message.at(last.saturating_sub(1)),
         1 => message.at(last.saturating_sub(rng.within(1..=90))),
         2 => Message { id: message.id.wrapping_add(1), ..message },
@@ -280,6 +285,7 @@ fn near_miss(rng: &mut Rng, message: Message, last: u32) -> Message {
         12 => message.d(rng.index(6), rng.pick(&[0, 1, 2, 3, 9, 10, 62, 63, 64, 255])),
         13 => message.d(rng.index(6), rng.byte()),
         14 => message.d(rng.index(5), rng.within(0..=2) as u8),
+        15 => message.d(5, rng.pick(&[1, 1, 2])),
         _ => Message { kind: rng.within(0..=14) as u8, ..message },
     }
 }

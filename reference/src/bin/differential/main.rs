@@ -3,6 +3,7 @@
 
 mod compare;
 mod demand;
+mod ends;
 mod journals;
 mod lists;
 mod raw_stations;

@@ -1,5 +1,7 @@
 //! Counts of what occurred, so that a run that never met a code, kind, regime or verdict is no test.
 
+use crate::ends::Ends;
+
 const CODES: [u8; 28] =
     [0, 1, 2, 3, 4, 5, 6, 7, 8, 10, 11, 12, 13, 14, 15, 16, 17, 18, 19, 20, 21, 22, 30, 31, 32, 33, 60, 61];
 const HEARD: [u8; 13] = [0, 11, 12, 13, 14, 15, 16, 17, 18, 19, 20, 21, 22];
@@ -25,6 +27,7 @@ pub struct Tally {
     answers: [[u64; 256]; 13],
     regimes: [u64; 3],
     verdicts: [u64; 7],
+    pub ends: Ends,
 }
 
 impl Tally {
@@ -41,6 +44,7 @@ impl Tally {
             answers: [[0; 256]; 13],
             regimes: [0; 3],
             verdicts: [0; 7],
+            ends: Ends::default(),
         }
     }
 
@@ -117,6 +121,7 @@ impl Tally {
         counts.extend((1..=12).map(|kind| (format!("kind {kind} accepted"), self.answers[kind][0])));
         counts.extend(REGIMES.iter().zip(self.regimes).map(|(regime, count)| (format!("regime {regime}"), count)));
         counts.extend((1..=6).map(|verdict| (format!("verdict {verdict}"), self.verdicts[verdict])));
+        counts.extend(self.ends.counts());
         for (name, count) in &counts {
             println!("{name}: {count}");
         }

@@ -224,7 +224,8 @@ fn kind_6(c: &mut Cases, y: &[u8]) {
     let past = [cleared(TRAIN, [8, 1, 0, 0, VOICE]), cleared(TRAIN, [63, 1, 0, 0, VOICE])];
     c.refused(17, y, &two(), &past); // turnout P, turnout 63
     c.list(17, y, &then(two(), &[cleared(TRAIN, [5, 9, 1, 2, WRITTEN])])); // 17 before 20 and 21
-    c.list(17, y, &then(work_and_train(M45, &[0, 1], 0), &[cleared(TRAIN, [1, 1, 1, 0, VOICE])])); // end not named
+    let other_end = cleared(TRAIN, [1, 1, 1, 0, VOICE]).both_ends();
+    c.list(17, y, &then(work_and_train(M45, &[0, 1], 0), &[other_end])); // end not named
     c.list(15, y, &then(two(), &[cleared(TRAIN, [2, 1, 0, 0, VOICE]).in_zone(1)])); // in the other zone
     let next = [ordered(TRAIN, CLEAR), passed(TRAIN), movement_asked(513, 0), cleared(513, [2, 8, 0, 2, VOICE])];
     c.list(0, y, &then(clear_2(), &next)); // anew for the next train
@@ -232,9 +233,10 @@ fn kind_6(c: &mut Cases, y: &[u8]) {
 
 /// Kind 6, clearance: 20 by position.
 fn kind_6_position(c: &mut Cases, y: &[u8]) {
-    c.list(20, y, &then(work_and_train(M45, &[0, 1], 0), &[cleared(TRAIN, [0, 1, 0, 0, VOICE])])); // normal
+    let in_position = |position: u8| cleared(TRAIN, [0, 1, position, 0, VOICE]).both_ends();
+    c.list(20, y, &then(work_and_train(M45, &[0, 1], 0), &[in_position(0)])); // normal
     c.list(0, y, &then(work_and_train(M45, &[2], 3), &[cleared(TRAIN, [2, 2, 1, 0, VOICE])])); // another route, reverse
-    c.list(0, y, &then(work_and_train(M45, &[0, 1], 0), &[cleared(TRAIN, [0, 1, 1, 0, VOICE])])); // reverse, as it is
+    c.list(0, y, &then(work_and_train(M45, &[0, 1], 0), &[in_position(1)])); // reverse, as it is
     c.list(20, y, &then(two(), &[cleared(TRAIN, [2, 1, 1, 0, VOICE])])); // reverse where normal
 }
 
@@ -248,6 +250,7 @@ fn kind_6_drive_and_clamp(c: &mut Cases, y: &[u8]) {
         for declaration in 1..=9 {
             let electric = matches!(turnout, 0 | 5);
             let run_over = matches!(turnout, 2 | 5);
+            let both_ends = u8::from(matches!((turnout, declaration), (0 | 3, 1 | 2)));
             // The clamps that do not fit come first, the one that fits last.
             let (clamps, last) = match declaration {
                 3..=6 if !electric => ([0, 1, 2], 20),
@@ -257,7 +260,8 @@ fn kind_6_drive_and_clamp(c: &mut Cases, y: &[u8]) {
                 _ => ([1, 2, 0], 0),
             };
             list.push(movement_asked(TRAIN, route));
-            list.extend(clamps.map(|clamp| cleared(TRAIN, [turnout, declaration, position, clamp, VOICE])));
+            let clearance = |clamp: u8| cleared(TRAIN, [turnout, declaration, position, clamp, VOICE]).d(5, both_ends);
+            list.extend(clamps.map(clearance));
             list.push(cancelled(TRAIN));
             codes.extend([0, 20, 20, last, 0]);
         }

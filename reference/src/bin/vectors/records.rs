@@ -36,6 +36,7 @@ pub fn add(cases: &mut Cases) {
             bad.extend([Message { b: 1, ..good }, Message { b: 1 << 63, ..good }]);
         }
         let unnamed = match kind {
+            // Named since M-101, of 02: 0 or 1, and 32 is neither.
             6 => 5..6,
             1 | 5 | 7 | 12 => 1..6,
             _ => 0..6,
@@ -47,7 +48,7 @@ pub fn add(cases: &mut Cases) {
     bad(Message { a: 1 << 63, ..good(2) }); // a where none is named
     bad(Message { b: 1, ..good(10) }); // b where only a is named
     bad(good(4).d(0, 1)); // the first detail
-    bad(good(6).d(5, 1)); // the last detail
+    bad(good(6).d(5, 2)); // the last detail
 
     // Field rules, 13: values of the details named.
     bad(good(1).d(0, 0)); // no form

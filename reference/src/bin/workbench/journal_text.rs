@@ -37,14 +37,16 @@ pub fn line(message: &Message) -> String {
     };
     let mut text = format!("{}: time {}, zone {}", kind.name, message.time, message.zone);
     for field in kind.fields {
-        text += ", ";
-        text += &match *field {
+        let shown = match *field {
             Field::Id(name) => format!("{name} {}", message.id),
             Field::SetA(name) => format!("{name} {}", words::set(message.a)),
             Field::SetB(name) => format!("{name} {}", words::set(message.b)),
             Field::Number(n, name, ..) => format!("{name} {}", message.d[n]),
             Field::Choice(n, table) => word(table, message.d[n]).unwrap_or("").to_string(),
+            Field::Flag(n, _) if message.d[n] == 0 => continue,
+            Field::Flag(_, words) => words.to_string(),
         };
+        text += &format!(", {shown}");
     }
     text
 }
@@ -98,6 +100,7 @@ fn read_message(line: &mut Line) -> Result<Message, TextError> {
                 message.d[n] = line.number(name, u32::from(low), u32::from(high))? as u8;
             }
             Field::Choice(n, table) => message.d[n] = line.choice(table)?,
+            Field::Flag(n, words) => message.d[n] = u8::from(line.flag(words)?),
         }
     }
     Ok(message)

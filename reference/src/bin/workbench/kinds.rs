@@ -13,6 +13,8 @@ pub enum Field {
     Number(usize, &'static str, u8, u8),
     /// A detail and the words for its values.
     Choice(usize, &'static [(&'static str, u8)]),
+    /// A detail of 0 or 1, at the line's end: the words for 1; for 0 there are none.
+    Flag(usize, &'static str),
 }
 
 pub struct Kind {
@@ -20,7 +22,7 @@ pub struct Kind {
     pub fields: &'static [Field],
 }
 
-use Field::{Choice, Id, Number, SetA, SetB};
+use Field::{Choice, Flag, Id, Number, SetA, SetB};
 
 const FORM: Field = Id("form");
 const TRAIN: Field = Id("train");
@@ -44,6 +46,7 @@ pub const KINDS: [Kind; 12] = [
             Choice(2, &[("position normal", 0), ("position reverse", 1)]),
             Choice(3, &[("no clamp", 0), ("clamp", 1), ("attended", 2)]),
             Choice(4, &[("medium voice", 1), ("medium written", 2)]),
+            Flag(5, "covers both ends"),
         ],
     },
     Kind { name: "ordered", fields: &[TRAIN, Choice(0, &[("signals clear", 1), ("signals danger", 2)])] },
@@ -86,6 +89,12 @@ pub fn bad_fields(message: &Message) -> Vec<String> {
                 if word(table, message.d[n]).is_none() {
                     let words: Vec<String> = table.iter().map(|(word, value)| format!("{value} {word}")).collect();
                     bad.push(format!("d{n} is {}, not {}", message.d[n], words.join(" or ")));
+                }
+            }
+            Flag(n, _) => {
+                details[n] = true;
+                if message.d[n] > 1 {
+                    bad.push(format!("d{n} is {}, not 0 or 1", message.d[n]));
                 }
             }
         }

@@ -84,6 +84,14 @@ impl Line {
         self.take(&words.join(" or "), |field| table.iter().find(|(word, _)| *word == field).map(|(_, value)| *value))
     }
 
+    /// The last field, if there is one: these words.
+    pub fn flag(&mut self, words: &str) -> Result<bool, TextError> {
+        if self.fields.is_empty() {
+            return Ok(false);
+        }
+        self.take(&format!("'{words}' or the end of the line"), |field| (field == words).then_some(true))
+    }
+
     /// No field is left.
     pub fn end(&self) -> Result<(), TextError> {
         let Some(field) = self.fields.front() else {

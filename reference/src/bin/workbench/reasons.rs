@@ -151,7 +151,7 @@ fn conflict(station: &Station, content: &Content, works: Option<Works>, train: O
     }
 }
 
-/// 20: of position, declaration and clamp, those that do not fit.
+/// 20: of position, declaration, clamp and the ends covered, those that do not fit.
 fn unfit(station: &Station, content: &Content, train: Option<Train>) -> String {
     let (Content::Cleared(clearance), Some(train)) = (content, train) else {
         return String::new();
@@ -174,7 +174,22 @@ fn unfit(station: &Station, content: &Content, train: Option<Train>) -> String {
         let (declaration, clamp) = (clearance.declaration, words::clamp(clearance.clamp));
         bad.push(format!("{clamp} does not fit declaration {declaration} on a turnout {part}"));
     }
+    if !clearance.ends_fit(station.has_partner(n)) {
+        bad.push(ends(station, clearance));
+    }
     bad.join("; ")
+}
+
+/// 02, M-101: "Declarations 1 and 2 on a turnout with a partner need d5 = 1. In every other clearance d5 is 0."
+fn ends(station: &Station, clearance: &Clearance) -> String {
+    let (n, declaration) = (clearance.turnout, clearance.declaration);
+    if !clearance.covers_both_ends {
+        return format!("declaration {declaration} on turnout {n}, one end of a crossover, must cover both ends");
+    }
+    if !station.has_partner(n) {
+        return format!("turnout {n} is alone: there is no other end to cover");
+    }
+    format!("declaration {declaration} covers one turnout: it may not say that it covers both ends")
 }
 
 fn channel(content: &Content) -> &'static str {

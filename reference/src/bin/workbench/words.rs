@@ -107,12 +107,13 @@ pub fn said(message: &Message, content: &Content) -> String {
 
 fn declared(clearance: &Clearance) -> String {
     format!(
-        "declaration {} ({}), {}, {}, {}",
+        "declaration {} ({}), {}, {}, {}{}",
         clearance.declaration,
         declaration(clearance.declaration),
         position(clearance.position),
         clamp(clearance.clamp),
-        medium(clearance.channel)
+        medium(clearance.channel),
+        if clearance.covers_both_ends { ", covering both ends" } else { "" }
     )
 }
 
@@ -148,7 +149,10 @@ pub fn check(content: &Content, refusal: Refusal) -> &'static str {
         (Refusal::Conflict, DetectionOff { .. }) => "a cleared turnout in a or b",
         (Refusal::Conflict, PartRestored { .. }) => "a standing movement names a turnout of a",
         (Refusal::Conflict, _) => "a standing movement names a turnout of the work",
-        (Refusal::Unfit, _) => "position, declaration and clamp must fit the route and the drive (Annex C, Art. 4.10)",
+        (Refusal::Unfit, _) => {
+            "position, declaration and clamp must fit the route and the drive (Annex C, Art. 4.10); declarations 1 and \
+             2 on a crossover cover both ends, no other clearance does (Art. 3.24)"
+        }
         (Refusal::Channel, _) => "voice needs a working recorder, written one that is out (Art. 3.26)",
         (Refusal::Regime, DetectionOff { .. }) => "b not empty under verbal (Art. 3.19, 3.20)",
         (Refusal::Regime, PartRestored { .. }) => "part restored under M.45 (Art. 2.13)",
@@ -169,8 +173,8 @@ pub fn met(content: &Content) -> &'static str {
         Content::DetectionOff { .. } => "work agreed; turnouts of the work, none of them cleared (Art. 3.19, 3.20)",
         Content::MovementAsked { .. } => "no other movement in the zone; a route of the zone",
         Content::Cleared(_) => {
-            "under agreed work, named by the route, not yet cleared; position, declaration and clamp fit (Annex C); \
-             the medium fits the recorder (Art. 3.26)"
+            "under agreed work, named by the route, not yet cleared; position, declaration and clamp fit (Annex C), \
+             and so do the ends it covers (Art. 3.24); the medium fits the recorder (Art. 3.26)"
         }
         Content::Ordered(Aspect::Clear) => "not yet ordered; clear needs the regime clear",
         Content::Ordered(Aspect::Danger) => "not yet ordered; danger needs a regime that is not held",

@@ -1,6 +1,7 @@
 //! Writes the stored cases: `vectors FOLDER` puts the files `cases` and `stdout` there.
 //! Every case states the code it is about; the program stops if this implementation gives another.
 
+mod both_ends;
 mod cases;
 mod copies;
 mod journals;
@@ -30,6 +31,7 @@ fn main() {
     journals::add(&mut cases);
     signal_works::add(&mut cases);
     copies::add(&mut cases);
+    both_ends::add(&mut cases);
     println!("{} cases, {} bytes; stdout {} bytes", cases.count, cases.bytes.len(), cases.stdout.len());
     assert!(cases.bytes.len() <= CASES_LIMIT && cases.stdout.len() <= STDOUT_LIMIT);
     let write = |name: &str, bytes: &[u8]| fs::write(Path::new(&folder).join(name), bytes);

@@ -1,40 +1,19 @@
 //! Cases of d5 in a clearance: whether its declaration covers both ends of a crossover. 02, M-101.
 
 use crate::cases::Cases;
+use crate::scenes::*;
 use crate::sheets::two_zones;
 use reference::builders::*;
 use reference::message::Message;
 
-const M45: u8 = 1;
-const VERBAL: u8 = 2;
-const HELD: u8 = 0;
-const CLEAR: u8 = 1;
-const DANGER: u8 = 2;
-const VOICE: u8 = 1;
-const WRITTEN: u8 = 2;
-const FORM: u32 = 7;
-const TRAIN: u32 = 512;
-/// The lowest turnout lacking a clearance, where none does.
-const NONE: u8 = 255;
-
-fn then(mut list: Vec<Message>, more: &[Message]) -> Vec<Message> {
-    list.extend(more);
-    list
-}
-
-/// Work agreed, and a train on route 0.
-fn work_and_train(form: u8, turnouts: &[u8]) -> Vec<Message> {
-    vec![work_asked(FORM, form, turnouts), agreed(FORM), movement_asked(TRAIN, 0)]
-}
-
 /// Station K, turnout 0 run over: one end of an electric crossover.
 fn crossover() -> Vec<Message> {
-    work_and_train(M45, &[0, 1])
+    work_and_train(M45, &[0, 1], 0)
 }
 
 /// Station K, turnout 2 flank: alone, by hand.
 fn alone() -> Vec<Message> {
-    work_and_train(VERBAL, &[2])
+    work_and_train(VERBAL, &[2], 0)
 }
 
 /// A clearance by voice of turnout 0, or 2, of station K.
@@ -166,7 +145,7 @@ fn records(c: &mut Cases) {
 /// 2 and 3 flank; 4, alone, is the exit zone.
 fn both_named(c: &mut Cases) {
     let sheet = two_zones().bytes();
-    let list = work_and_train(M45, &[0, 1, 2, 3, 4]);
+    let list = work_and_train(M45, &[0, 1, 2, 3, 4], 0);
     let run_over = |turnout: u8| cleared(TRAIN, [turnout, 1, 1, 0, VOICE]);
     let beside = |turnout: u8| cleared(TRAIN, [turnout, 2, 0, 0, VOICE]);
     let one = then(list, &[run_over(0).both_ends()]);

@@ -1,17 +1,9 @@
 //! Cases of the twelve kinds: every number each can be answered with, and two faults in order.
 
 use crate::cases::Cases;
+use crate::scenes::*;
 use reference::builders::*;
 use reference::message::Message;
-
-const M45: u8 = 1;
-const VERBAL: u8 = 2;
-const CLEAR: u8 = 1;
-const DANGER: u8 = 2;
-const VOICE: u8 = 1;
-const WRITTEN: u8 = 2;
-const FORM: u32 = 7;
-const TRAIN: u32 = 512;
 
 /// Zone 0: 0-1 an electric crossover, 2 by hand, 3-4 a hand crossover, 5 electric. Zone 1: 6 electric, 7 by hand.
 /// Route 0 runs over 0 (reverse), 2 and 5, flank 3 and 4 (reverse). Route 1 is zone 1's. Route 2 runs over 2 alone,
@@ -29,21 +21,6 @@ fn yard() -> Vec<u8> {
         .route(0, &[2], &[], &[], &[])
         .route(0, &[5], &[], &[0, 2], &[2])
         .bytes()
-}
-
-/// Work asked and agreed.
-fn work(form: u8, turnouts: &[u8]) -> Vec<Message> {
-    vec![work_asked(FORM, form, turnouts), agreed(FORM)]
-}
-
-/// Work agreed, then a movement over a route.
-fn work_and_train(form: u8, turnouts: &[u8], route: u8) -> Vec<Message> {
-    then(work(form, turnouts), &[movement_asked(TRAIN, route)])
-}
-
-fn then(mut list: Vec<Message>, more: &[Message]) -> Vec<Message> {
-    list.extend(more);
-    list
 }
 
 /// One message of each kind whose fields are good.

@@ -2,15 +2,10 @@
 //! records that do not read inside a journal.
 
 use crate::cases::Cases;
+use crate::scenes::*;
 use reference::builders::*;
 use reference::message::Message;
 use reference::sheet;
-
-const HELD: u8 = 0;
-const CLEAR: u8 = 1;
-const DANGER: u8 = 2;
-/// The lowest turnout lacking a clearance, where none does.
-const NONE: u8 = 255;
 
 /// A conversation in zones 0, 3 and 7 of the largest station.
 fn several_zones() -> Vec<Message> {

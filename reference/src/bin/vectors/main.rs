@@ -8,6 +8,7 @@ mod journals;
 mod kinds;
 mod lists;
 mod records;
+mod scenes;
 mod sheets;
 mod signal_works;
 

@@ -109,20 +109,9 @@ fn order_of_checks(c: &mut Cases, k: &[u8]) {
 
 /// In every other kind d5 stays 0.
 fn other_kinds(c: &mut Cases, k: &[u8]) {
-    let others = [
-        work_asked(FORM, M45, &[0, 1]),
-        agreed(FORM),
-        withdrawn(FORM),
-        detection_off(FORM, &[0, 1], &[]),
-        movement_asked(TRAIN, 0),
-        ordered(TRAIN, CLEAR),
-        passed(TRAIN),
-        cancelled(TRAIN),
-        part_restored(FORM, &[2]),
-        all_restored(FORM),
-        recorder(1),
-    ];
-    c.refused(13, k, &crossover(), &others.map(|message| message.d(5, 1))); // each of them
+    let others = one_of_each(&[0, 1]).into_iter().filter(|message| message.kind != 6);
+    let wrong: Vec<Message> = others.map(|message| message.d(5, 1)).collect();
+    c.refused(13, k, &crossover(), &wrong); // each of them
 }
 
 /// Records read, written and added.

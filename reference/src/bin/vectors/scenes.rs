@@ -30,3 +30,21 @@ pub fn then(mut list: Vec<Message>, more: &[Message]) -> Vec<Message> {
     list.extend(more);
     list
 }
+
+/// One message of each kind whose fields are good; work on these turnouts.
+pub fn one_of_each(turnouts: &[u8]) -> [Message; 12] {
+    [
+        work_asked(FORM, M45, turnouts),
+        agreed(FORM),
+        withdrawn(FORM),
+        detection_off(FORM, turnouts, &[]),
+        movement_asked(TRAIN, 0),
+        cleared(TRAIN, [2, 1, 0, 0, VOICE]),
+        ordered(TRAIN, CLEAR),
+        passed(TRAIN),
+        cancelled(TRAIN),
+        part_restored(FORM, &[2]),
+        all_restored(FORM),
+        recorder(1),
+    ]
+}

@@ -1,5 +1,4 @@
--- Every value of a packed answer comes back where it is below 256; a record's place needs that of
--- the code alone.
+-- The code and a record's place come back where the code is below 256.
 use mathlib.Core.Bool.{Bool, true, false}
 use mathlib.Core.Path.{_≡_, refl, sym, ap, _∙_}
 use Prim.Native.Nat.{ℕ, _+_, _*_, _<_}
@@ -8,18 +7,10 @@ use native.Mathlib.Nat.{zero-add, div-eq-of-lt, mod-eq-of-lt}
 use lib.Dec.{eqb}
 use borrow.Author.Tests.{eqb-true, eq-eqb}
 use Rattle.packing.specs.Bytes.{above, byteOf}
-use Rattle.packing.proofs.Bytes.{lowest-byte, above-next, byte-next}
-use Rattle.sheet.specs.declared.Finding.{Finding}
+use Rattle.packing.proofs.Bytes.{lowest-byte, above-next}
 use Rattle.journal.specs.Journal.{recordPlace}
 use Rattle.works_desk_journal.specs.Packed.{recordPacked}
-use Rattle.works_desk_journal.specs.Unpacked.{FindingBytes, RecordBytes}
-
-pub finding-bytes : (f : Finding) → f .code < 256 → f .index < 256 → FindingBytes f
-unfolding above
-finding-bytes f code-fits index-fits = record {
-  code-byte = lowest-byte (f .code) (f .index) code-fits;
-  index-byte = byte-next 0 (f .code) (f .index) code-fits ∙ mod-eq-of-lt index-fits;
-}
+use Rattle.works_desk_journal.specs.Unpacked.{RecordBytes}
 
 -- a record's place stands above the code 0
 place-packed : (code n : ℕ) → code ≡ 0 → recordPacked code n ≡ 0 + 256 * recordPlace n

@@ -2,8 +2,9 @@
 -- it.
 use mathlib.Core.Bool.{cond}
 use mathlib.Core.List.{List}
-use Prim.Native.Nat.{ℕ, _+_, _*_}
+use Prim.Native.Nat.{ℕ, _*_}
 use lib.Dec.{eqb}
+use Rattle.packing.specs.Bytes.{twoPacked}
 use Rattle.sheet.specs.declared.Finding.{Finding}
 use Rattle.sheet.specs.declared.Sheet.{Sheet}
 use Rattle.sheet.specs.Sheet.{findingOf}
@@ -12,7 +13,7 @@ use Rattle.journal.specs.Journal.{recordPlace}
 
 -- a sheet: the code, the index of the bad record
 abbrev pub findingPacked : Finding → ℕ
-findingPacked f = f .code + 256 * f .index
+findingPacked f = twoPacked (f .code) (f .index)
 
 abbrev pub sheetPacked : Sheet → ℕ
 sheetPacked a = findingPacked (findingOf a)

@@ -17,7 +17,7 @@ pub extern "C" fn desk_sheet(sheet: &[u8]) -> u32
     ensures { λ r. ⌜ r ≡ sheetPacked (readSheet (now (sheet .entry))) ⌝ }
 {
     let read = sheet::read_sheet(sheet);
-    (read.code as u32) + 256 * (read.index as u32)
+    packing::two_packed(read.code, read.index)
 }
 
 // Reads a sheet and writes it into the buffer: the code, and 256 times the index of the bad record. It never gives 7.
@@ -29,7 +29,7 @@ pub extern "C" fn desk_copy_sheet(sheet: &[u8], buffer: &mut [u8]) -> u32
         ⌝ }
 {
     let found = sheet_writer::copy_sheet(sheet, buffer);
-    (found.code as u32) + 256 * (found.index as u32)
+    packing::two_packed(found.code, found.index)
 }
 
 // Reads a record: 0, or the number that refuses it.

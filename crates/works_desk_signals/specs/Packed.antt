@@ -1,6 +1,7 @@
 -- A verdict as one number: the code, and the verdict above it.
-use Prim.Native.Nat.{ℕ, _+_, _*_}
+use Prim.Native.Nat.{ℕ}
+use Rattle.packing.specs.Bytes.{twoPacked}
 use Rattle.signals.specs.Answer.{Answer}
 
 abbrev pub verdictPacked : Answer → ℕ
-verdictPacked a = a .code + 256 * a .verdict
+verdictPacked a = twoPacked (a .code) (a .verdict)

@@ -9,5 +9,8 @@ pub extern "C" fn desk_verdict(line: u8, signal: u8, flags: u8) -> u32
     ensures { λ r. ⌜ r ≡ verdictPacked (judged line signal flags) ⌝ }
 {
     let ruling = signals::judge(line, signal, flags);
-    (signals::ruling_code(ruling) as u32) + 256 * (signals::ruling_verdict(ruling) as u32)
+    packing::two_packed(
+        signals::ruling_code(ruling),
+        signals::ruling_verdict(ruling),
+    )
 }

@@ -7,16 +7,10 @@ use Rattle.works_desk_journal.proofs.desk_copy_sheet.Tie as tie
 
 returns : tie.Need-returns
 returns c =
-    ap (λ (a : SheetCopied). copyPacked a) (c .before .before .before .before .copy-sheet .ensures)
+    rw (c .two-packed .ensures)
+    (ap (λ (a : SheetCopied). copyPacked a) (c .before .before .before .copy-sheet .ensures))
 
 pub desk-copy-sheet-spec : {M : Type 1} → statement M
 desk-copy-sheet-spec =
     tie.close
-    (tie.spec
-    (λ c κs. search needs)
-    (λ c. search needs)
-    (λ c. search needs)
-    (λ c. search needs)
-    (λ c. search needs)
-    (λ c. search needs)
-    returns)
+    (tie.spec (λ c κs. search needs) (λ c κs. search needs) (λ c. search needs) returns)

@@ -6,9 +6,10 @@ use Rattle.works_desk_signals.proofs.desk_verdict.Tie as tie
 returns : tie.Need-returns
 returns c =
     rw (
-      c .ruling-verdict .ensures,
-      c .before .ruling-code .ensures,
-      c .before .before .judge .ensures,
+      c .two-packed .ensures,
+      c .before .ruling-verdict .ensures,
+      c .before .before .ruling-code .ensures,
+      c .before .before .before .judge .ensures,
     )
 
 pub desk-verdict-spec : {M : Type 1} → statement M
@@ -17,9 +18,6 @@ desk-verdict-spec =
     (tie.spec
     (λ c κs. search needs)
     (λ c κs. search needs)
-    (λ c. search needs)
     (λ c κs. search needs)
-    (λ c. search needs)
-    (λ c. search needs)
-    (λ c. search needs)
+    (λ c κs. search needs)
     returns)

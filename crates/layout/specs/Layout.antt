@@ -47,16 +47,23 @@ sheetLength p r = 8 + 3 * p + 33 * r
 abbrev pub lengthKept : List ℕ → Bool
 lengthKept s = eqb (length s) (sheetLength (countP s) (countR s))
 
--- "Order: under 8 bytes, mark, version, counts (zone byte included), length": the number of the
--- first that fails, else 0
-unfoldable pub headerNumber : List ℕ → ℕ
-headerNumber s =
+-- "Order: under 8 bytes, mark, version, counts (zone byte included), ..": the number of the first
+-- that fails, else that of the checks that come after them
+abbrev pub beforeLength : List ℕ → ℕ → ℕ
+beforeLength s later =
     cond (ltb (length s) 8) 1
     (cond (not (hasMark s)) 2
     (cond (not (versionKept (version s))) 3
     (cond (not (countsKept (countP s) (countR s) (countZ s))) 4
-    (cond (not (lengthKept s)) 1
-    0))))
+    later)))
+
+-- ".. length"
+abbrev pub lengthNumber : List ℕ → ℕ
+lengthNumber s = cond (not (lengthKept s)) 1 0
+
+-- the desk's order: nothing stands between counts and length
+unfoldable pub headerNumber : List ℕ → ℕ
+headerNumber s = beforeLength s (lengthNumber s)
 
 -- "turnout records of 3 bytes: zone ..; partner ..; drive ..": the record at an index
 abbrev pub turnoutIn : List ℕ → ℕ → Turnout

@@ -8,6 +8,8 @@ ghost use Rattle.layout.specs.Layout.{
   withinLimits,
   countsKept,
   sheetLength,
+  beforeLength,
+  lengthNumber,
   headerNumber,
   turnoutIn,
   routeIn,
@@ -46,7 +48,7 @@ fn has_mark(s: &[u8]) -> bool
 }
 
 // Whether there are at most so many turnouts and routes.
-fn within_limits(turnouts: u8, routes: u8, p: u8, r: u8) -> bool
+pub fn within_limits(turnouts: u8, routes: u8, p: u8, r: u8) -> bool
     ensures { λ b. ⌜ b ≡ withinLimits turnouts routes p r ⌝ }
 {
     (p <= turnouts) & (r <= routes)
@@ -73,21 +75,40 @@ pub fn sheet_length(p: u8, r: u8) -> usize
     HEADER + 3 * (p as usize) + 33 * (r as usize)
 }
 
-// 0 if the header and the length are good, else the first number of 1, 2, 3, 4, 1 that fits.
-pub fn header_code(s: &[u8]) -> u8
-    ensures { λ r. ⌜ r ≡ headerNumber (now (s .entry)) ⌝ }
+// The first number of 1, 2, 3, 4 that fits, by the checks before that of the length; else the one that is given.
+pub fn before_length(s: &[u8], later: u8) -> u8
+    ensures { λ r. ⌜ r ≡ beforeLength (now (s .entry)) later ⌝ }
 {
-    let p = bigendian::get8(s, 5);
-    let r = bigendian::get8(s, 6);
-    let length = first_code(s.len() != sheet_length(p, r), BAD_LENGTH, 0);
     let counts = first_code(
-        !counts_kept(p, r, bigendian::get8(s, 7)),
+        !counts_kept(
+            bigendian::get8(s, 5),
+            bigendian::get8(s, 6),
+            bigendian::get8(s, 7),
+        ),
         BAD_COUNTS,
-        length,
+        later,
     );
     let version = first_code(!version_kept(bigendian::get16(s, 3)), BAD_VERSION, counts);
     let mark = first_code(!has_mark(s), BAD_MARK, version);
     first_code(s.len() < HEADER, BAD_LENGTH, mark)
+}
+
+// 0 if there are as many bytes as the counts ask for, else 1.
+pub fn length_code(s: &[u8]) -> u8
+    ensures { λ r. ⌜ r ≡ lengthNumber (now (s .entry)) ⌝ }
+{
+    first_code(
+        s.len() != sheet_length(bigendian::get8(s, 5), bigendian::get8(s, 6)),
+        BAD_LENGTH,
+        0,
+    )
+}
+
+// 0 if the header and the length are good, else the first number of 1, 2, 3, 4, 1 that fits.
+pub fn header_code(s: &[u8]) -> u8
+    ensures { λ r. ⌜ r ≡ headerNumber (now (s .entry)) ⌝ }
+{
+    before_length(s, length_code(s))
 }
 
 fn turnout_in(s: &[u8], at: usize) -> Turnout

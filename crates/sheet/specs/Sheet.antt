@@ -50,7 +50,8 @@ goodRoute st n =
 unfoldable pub badRoute : Station → ℕ
 badRoute st = firstFrom (λ n. not (goodRoute st n)) 0 (routeCount st)
 
--- "1, 2, 3, 4 .. 5, 6, with record index from 0 (else 0)": "empty station, every number 0"
+-- "1, 2, 3, 4 .. 5, 6, with record index from 0 (else 0)": "empty station, every number 0"; so with
+-- the panel's 9
 abbrev pub refusedSheet : ℕ → ℕ → Sheet
 refusedSheet number place = record { code = number; index = place; station = emptyStation }
 
@@ -73,6 +74,11 @@ judged st =
 abbrev pub findingOf : Sheet → Finding
 findingOf a = record { code = a .code; index = a .index }
 
+-- the answer to bytes to whose header a reader's checks give a number: the refusal by it, or for 0
+-- the judgement of the station in the bytes
+abbrev pub afterHeader : ℕ → List ℕ → Sheet
+afterHeader number s = cond (eqb number 0) (judged (stationIn s)) (refusedSheet number 0)
+
 -- the answer to any bytes as a sheet
 unfoldable pub readSheet : List ℕ → Sheet
-readSheet s = cond (eqb (headerNumber s) 0) (judged (stationIn s)) (refusedSheet (headerNumber s) 0)
+readSheet s = afterHeader (headerNumber s) s

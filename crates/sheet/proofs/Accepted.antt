@@ -6,7 +6,8 @@ use mathlib.Core.Path.{_≡_, refl, ap, _∙_}
 use mathlib.Core.List.{List}
 use Prim.Native.Nat.{ℕ, _<_}
 use native.Mathlib.Omega.{arith}
-use borrow.Author.Tests.{eqb-true, eqb-false, leb-true, ltb-true, ltb-false, not-true, not-false}
+use borrow.Author.Tests.{eqb-true, eqb-false, leb-true, ltb-true, ltb-false, le-leb}
+use borrow.Author.Tests.{not-true, not-false}
 use lib.Dec.{eqb, ltb, leb}
 use Rattle.sets.specs.Range.{firstFrom}
 use Rattle.sets.proofs.Ranges.{none-below, not-found}
@@ -77,7 +78,19 @@ counts-in-range st h =
       zones-limit = kept .4;
     }
 
--- and so are those of a header without a fault
+-- and the other way about
+pub counts-kept :
+    (st : Station) → GoodCounts st → countsKept (st .turnouts) (st .routes) (st .zones) ≡ true
+counts-kept st c =
+    rw (
+      le-leb 1 (st .turnouts) (c .some-turnout),
+      le-leb (st .turnouts) 64 (c .turnouts-limit),
+      le-leb (st .routes) 64 (c .routes-limit),
+      le-leb 1 (st .zones) (c .some-zone),
+      le-leb (st .zones) 8 (c .zones-limit),
+    )
+
+-- those of a header without a fault are in range
 good-counts : (s : List ℕ) → headerNumber s ≡ 0 → GoodCounts (stationIn s)
 unfolding stationIn
 good-counts s h = counts-in-range (stationIn s) (no-fault s h .2)

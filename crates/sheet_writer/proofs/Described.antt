@@ -4,7 +4,7 @@ use mathlib.Core.List.{List}
 use mathlib.Core.Path.{_≡_, refl, ap, _∙_}
 use Prim.Native.Nat.{ℕ, _+_, _-_, _≤_, min}
 use native.Mathlib.Omega.{arith}
-use borrow.Author.Tests.{eqb-true, eq-eqb, le-leb, ltb-true, ltb-false}
+use borrow.Author.Tests.{eqb-true, eq-eqb, ltb-true, ltb-false}
 use lib.Dec.{eqb, ltb}
 use lib.ListN.{length, getD, List·getD-eq-default}
 use Rattle.sets.proofs.Ranges.{all-at, all-from}
@@ -15,9 +15,9 @@ use Rattle.station.specs.Station.{emptyTurnout, emptyRoute}
 use Rattle.layout.specs.Layout.{countsKept}
 use Rattle.layout.proofs.Joined.{three, four, five}
 use Rattle.sheet.specs.declared.Sheet.{Sheet}
-use Rattle.sheet.specs.Accepted.{GoodCounts, Passed}
+use Rattle.sheet.specs.Accepted.{Passed}
 use Rattle.sheet.specs.Sheet.{judged}
-use Rattle.sheet.proofs.Accepted.{counts-in-range, passed, fixed}
+use Rattle.sheet.proofs.Accepted.{counts-in-range, counts-kept, passed, fixed}
 use Rattle.sheet_bytes.specs.Typed.{TypedStation}
 use Rattle.sheet_writer.specs.Past.{isZeroTurnout, isZeroRoute}
 use Rattle.sheet_writer.specs.Past.{allPast, turnoutsEnd, routesEnd}
@@ -101,19 +101,7 @@ described-passes st fits h =
           (fits .route-places) zero-route (kept .3);
     }
 
--- counts in range pass the header's test
-pub counts-kept :
-    (st : Station) → GoodCounts st → countsKept (st .turnouts) (st .routes) (st .zones) ≡ true
-counts-kept st c =
-    rw (
-      le-leb 1 (st .turnouts) (c .some-turnout),
-      le-leb (st .turnouts) 64 (c .turnouts-limit),
-      le-leb (st .routes) 64 (c .routes-limit),
-      le-leb 1 (st .zones) (c .some-zone),
-      le-leb (st .zones) 8 (c .zones-limit),
-    )
-
--- and what passes them is described
+-- what passes the tests is described
 pub passed-described : (st : Station) → Passed st → described st ≡ true
 unfolding described turnoutsEnd routesEnd
 passed-described st h =

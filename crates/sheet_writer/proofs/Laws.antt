@@ -17,7 +17,7 @@ use Rattle.station.specs.declared.Station.{Station}
 use Rattle.layout.specs.Layout.{headerNumber}
 use Rattle.sheet.specs.declared.Sheet.{Sheet}
 use Rattle.sheet.specs.Sheet.{readSheet, findingOf}
-use Rattle.sheet.proofs.Accepted.{headed, station-of, passes, fixed}
+use Rattle.sheet.proofs.Accepted.{counts-kept, headed, station-of, passes, fixed}
 use Rattle.sheet.proofs.Judging.{code-most}
 use Rattle.sheet_bytes.specs.SheetBytes.{sheetBytes}
 use Rattle.sheet_bytes.specs.Typed.{TypedStation}
@@ -28,7 +28,7 @@ use Rattle.sheet_writer.specs.Writer.{described, lengthOf}
 use Rattle.sheet_writer.specs.Writer.{SheetWritten, writtenSheet, SheetCopied, copiedSheet}
 use Rattle.sheet_writer.specs.Laws.{Describes, WriterLaws, EachWritten}
 use Rattle.sheet_writer.specs.Laws.{copyAnswer, EachWrittenAgain, EachCopied}
-use Rattle.sheet_writer.proofs.Described.{described-passes, passed-described, counts-kept}
+use Rattle.sheet_writer.proofs.Described.{described-passes, passed-described}
 
 -- the bytes of a described station's sheet read as that station
 read-back :

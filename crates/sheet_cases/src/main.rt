@@ -110,18 +110,18 @@ fn line_tried(input: &[u8], at: usize) -> usize {
     case_rows::after(next)
 }
 
-// Tries every line, at most 400.
+// Tries every line, at most 600.
 fn all_tried(input: &[u8]) {
     let mut at: usize = 0;
     let mut i: usize = 0;
-    while i < 400 {
+    while i < 600 {
         at = line_tried(input, at);
         i += 1;
     }
 }
 
 fn main() {
-    let mut input = [b'\n'; 16384];
+    let mut input = [b'\n'; 24576];
     io::read_full(0, &mut input);
     all_tried(&input);
 }

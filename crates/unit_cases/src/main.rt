@@ -63,12 +63,12 @@ fn line_tried(sheet: &[u8], journal: &[u8], desk: &mut [u8], input: &[u8], at: u
     named_tried(sheet, journal, desk, input, at)
 }
 
-// Tries every row, at most 400.
+// Tries every row, at most 600.
 fn all_tried(sheet: &[u8], journal: &[u8], input: &[u8]) {
     let mut desk = [7u8; ROOM];
     let mut at: usize = 0;
     let mut i: usize = 0;
-    while i < 400 {
+    while i < 600 {
         at = line_tried(sheet, journal, &mut desk, input, at);
         i += 1;
     }
@@ -78,7 +78,7 @@ fn all_tried(sheet: &[u8], journal: &[u8], input: &[u8]) {
 fn main() {
     let mut sheet = [0u8; SHEET + 1];
     let mut journal = [0u8; 1024];
-    let mut input = [b'\n'; 16384];
+    let mut input = [b'\n'; 24576];
     files::read_file(b"sheet", &mut sheet);
     let n = files::read_file(b"journal", &mut journal);
     io::read_full(0, &mut input);

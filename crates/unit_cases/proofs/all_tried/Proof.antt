@@ -10,7 +10,7 @@ abbrev Inv-loop : tie.InvT-loop
 Inv-loop sheet journal input desk₀ at₀ i₀ desk at i = length desk ≡ 521
 
 abbrev μ-loop : tie.MeasureT-loop
-μ-loop sheet journal input desk₀ at₀ i₀ desk at i = 400 - i
+μ-loop sheet journal input desk₀ at₀ i₀ desk at i = 600 - i
 
 pub all-tried-spec : {M : Type 1} → statement M
 all-tried-spec =

@@ -1,6 +1,7 @@
-// Tries the reader of station sheets (document 01, 'Station sheet') on worked sheets, and their writer (document 02,
-// M-100) on worked stations. Both are proved to follow the rules in the specs/ of their crates, sheet and
-// sheet_writer; what this program writes shows that these rules accept and refuse what the documents do.
+// Tries the reader of station sheets (document 01, 'Station sheet') on worked sheets, their writer (document 02,
+// M-100) on worked stations, and the cabin panel's reader (document 02, M-102) beside the desk's. They are proved to
+// follow the rules in the specs/ of their crates, sheet, sheet_writer and panel; what this program writes shows that
+// these rules accept and refuse what the documents do.
 // The cases are in stdin and the expected lines in stdout, written from the documents; no expected number stands
 // here.
 //
@@ -9,6 +10,9 @@
 // and with 1). Then come how many bytes of it are read, and its damage, pairs of a place and the byte that is put
 // there. The output is the name, the code and the index. With 5 the sheet is station K, and the output is the name
 // and the sum of all numbers of the station that reading gives.
+// Number 6 is a plain sheet that both readers read (panels.rt). Then come its counts of turnouts and routes, modulo
+// 256, how many bytes of it are read, and its damage. The output is the name; then of the panel's reading the code,
+// the index and the sum of all numbers of its station; then the same three of the desk's.
 // Number 10 to 19 is a question about a station: 10, 11, 12 the count of turnouts, routes, zones; 13 and 14 the zone
 // and the drive of a turnout; 15 what is tied to it; 16 the turnouts of a zone; 17 what a route names; 18 whether a
 // set splits a crossover; 19 whether a turnout has a partner (document 02, M-101), 1 for yes. Then come a count, a
@@ -23,6 +27,7 @@
 // output is the name and three numbers: the code; how many bytes at the start of the buffer are then those of the
 // sheet before the changes (of no sheet for 20), up to the first that differs; and how many bytes of the rest of the
 // buffer are still 170.
+mod panels;
 mod sheets;
 mod stations;
 mod writing;
@@ -36,6 +41,12 @@ fn write_number(n: u64) {
     io::print_decimal(1, n);
 }
 
+// Writes the code and the index that reading a sheet gave.
+fn write_finding(r: sheet::Sheet) {
+    write_number(r.code as u64);
+    write_number(r.index as u64);
+}
+
 // Writes what reading a sheet gives.
 fn write_reading(s: &[u8], base: u16) {
     let r = sheet::read_sheet(s);
@@ -43,8 +54,7 @@ fn write_reading(s: &[u8], base: u16) {
         write_number(stations::sum(r.station));
         return;
     }
-    write_number(r.code as u64);
-    write_number(r.index as u64);
+    write_finding(r);
 }
 
 // The first n bytes; all, if there are fewer.
@@ -86,6 +96,9 @@ fn question_tried(input: &[u8], question: u16, at: usize) -> usize {
 // Tries what stands after the name; the place after it.
 fn rest_tried(input: &[u8], at: usize) -> usize {
     let first = number_at(input, at);
+    if first.value == 6 {
+        return panels::tried(input, first.next);
+    }
     if first.value < 10 {
         return sheet_tried(input, first.value, first.next);
     }

@@ -16,7 +16,7 @@ fn put_bytes(s: &mut [u8], at: usize, bytes: &[u8]) {
 }
 
 // Stores a header with the counts P, R and Z.
-fn put_header(s: &mut [u8], p: u8, r: u8, z: u8) {
+pub fn put_header(s: &mut [u8], p: u8, r: u8, z: u8) {
     put_bytes(s, 0, &[b'S', b'P', b'T', 0, 1, p, r, z]);
 }
 

@@ -35,8 +35,8 @@ fn case_at(s: &[u8]) -> Case {
     }
 }
 
-// Puts what a case of a record, a journal, a verdict or a sheet written again answers: kinds 5 to 11. Any other kind
-// answers nothing.
+// Puts what a case of a record, a journal, a verdict, a sheet written again or the panel answers: kinds 5 to 12. Any
+// other kind answers nothing.
 fn put_other(out: &mut [u8], at: usize, c: Case, a: &[u8], b: &[u8]) -> usize {
     let kind = c.kind;
     match kind {
@@ -47,6 +47,7 @@ fn put_other(out: &mut [u8], at: usize, c: Case, a: &[u8], b: &[u8]) -> usize {
         9 => journals::put_added(out, at, a, b),
         10 => stations::put_verdict(out, at, c.x),
         11 => stations::put_copied(out, at, a, b),
+        12 => stations::put_panel(out, at, a),
         _ => at,
     }
 }

@@ -1,5 +1,5 @@
-// Cases of sheets that are read, and read and written again; of a journal replayed, of both questions after it, and of
-// verdicts.
+// Cases of sheets that are read, by the desk and by the panel, and written again; of a journal replayed, of both
+// questions after it, and of verdicts.
 use super::numbers::copied;
 use super::numbers::put_number;
 use super::numbers::put_two;
@@ -96,4 +96,19 @@ pub fn put_copied(out: &mut [u8], at: usize, a: &[u8], b: &[u8]) -> usize {
     let mut buffer = [0u8; 2400];
     let n = copied(b, &mut buffer);
     put_copy(out, at, a, &mut buffer[..n])
+}
+
+// Puts the code of writing the sheet of a station into a buffer, and the sum of the buffer then.
+fn put_station(out: &mut [u8], at: usize, st: station::Station, s: &mut [u8]) -> usize {
+    let code = sheet_writer::write_sheet(st, s);
+    put_two(out, at, code as u32, sum32(s))
+}
+
+// Kind 12: the code and the index of the panel's reading of sheet a; then the code of writing the station that it gave
+// into 2,312 bytes of 0, and the sum of these then. The sum tells stations apart.
+pub fn put_panel(out: &mut [u8], at: usize, a: &[u8]) -> usize {
+    let read = panel::read_panel_sheet(a);
+    let next = put_two(out, at, read.code as u32, read.index as u32);
+    let mut buffer = [0u8; 2312];
+    put_station(out, next, read.station, &mut buffer)
 }

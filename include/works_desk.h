@@ -1,11 +1,12 @@
 /*
  * The turnout works desk, for firmware in C (C99) or C++.
  *
- * Three archives, built by `rt staticlib NAME`:
+ * Four archives, built by `rt staticlib NAME`:
  *   libworks_desk_journal.a  levels Halt, Junction and Line: sheets and their copies, records, journals, replaying a journal, both questions
  *                            after one
  *   libworks_desk_unit.a     levels Halt, Junction and Line: a desk of 520 bytes, heard one record at a time, and both questions of it
  *   libworks_desk_signals.a  level Line alone: verdicts for works on signals
+ *   libworks_desk_panel.a    a cabin panel, a product of its own: reading a sheet within its limits
  * They may be linked together in any mix and order. They need memcpy, allocate nothing and keep nothing between calls.
  *
  * For every call:
@@ -30,7 +31,7 @@ extern "C" {
 #endif
 
 /* The version of this interface, raised when a call, a code, a packing or a field of a record changes. */
-#define DESK_INTERFACE_VERSION 3
+#define DESK_INTERFACE_VERSION 4
 
 /* The version of a desk's 520 bytes, their byte 0. */
 #define DESK_BYTES_VERSION 1
@@ -43,8 +44,12 @@ enum {
     DESK_JOURNAL_RECORDS = 1024,  /* the most records that a journal holds */
     DESK_JOURNAL_MOST = 32784,    /* a full journal */
     DESK_ANSWER_BYTES = 5,        /* an answer of a replay: code (1), minutes (4) */
-    UNIT_DESK_BYTES = 520         /* the desk of a unit */
+    UNIT_DESK_BYTES = 520,        /* the desk of a unit */
+    PANEL_SHEET_MOST = 320        /* a sheet that a panel accepts; most with 16 turnouts and 8 routes */
 };
+
+/* A panel's limits: it has lamps for so many. */
+enum { PANEL_TURNOUTS = 16, PANEL_ROUTES = 8 };
 
 /* The codes: the numbers that the calls return. */
 enum desk_number {
@@ -57,6 +62,7 @@ enum desk_number {
     DESK_E_SHEET_ROUTE = 6,    /* sheet: bad route, with the record's index */
     DESK_E_NO_SHEET = 7,       /* writing a sheet: no sheet describes the station; no call here gives it, since a station comes from a sheet */
     DESK_E_SHEET_BUFFER = 8,   /* writing a sheet: the buffer is shorter than the sheet */
+    DESK_E_PANEL_LIMITS = 9,   /* panel: more than 16 turnouts or 8 routes; panel_sheet alone gives it */
     DESK_E_RECORD_LENGTH = 10, /* a record, or the buffer for one, is not 32 bytes */
     DESK_E_KIND = 11,          /* kind not 1 to 12 */
     DESK_E_ZONE = 12,          /* zone not below the station's count */
@@ -128,11 +134,11 @@ static inline uint8_t desk_code(uint64_t answer) { return (uint8_t)(answer & 255
 
 /*
  * Reads a sheet (8 + 3P + 33R bytes, at most 2,312). Codes: 0, 1 to 6, in the order length under 8, mark, version, counts, length,
- * turnouts, routes. Back come the code and the index of the bad turnout or route (0 unless the code is 5 or 6).
+ * turnouts, routes; never 9. Back come the code and the index of the bad turnout or route (0 unless the code is 5 or 6).
  */
 uint32_t desk_sheet(const uint8_t *sheet, size_t sheet_len);
 
-/* Of the answers of desk_sheet and desk_copy_sheet. */
+/* Of the answers of desk_sheet, desk_copy_sheet and panel_sheet. */
 static inline uint8_t desk_sheet_index(uint32_t answer) { return (uint8_t)(answer >> 8); }
 
 /*
@@ -275,6 +281,16 @@ uint32_t unit_work(const uint8_t *sheet, size_t sheet_len, const uint8_t *desk, 
 uint32_t desk_verdict(uint8_t line, uint8_t signal, uint8_t flags);
 
 static inline uint8_t desk_verdict_value(uint32_t answer) { return (uint8_t)(answer >> 8); }
+
+/* ---- libworks_desk_panel.a ---- */
+
+/*
+ * Reads a sheet for a cabin panel, which takes at most 16 turnouts and 8 routes (so at most 320 bytes), and as many
+ * zones as the desk. Codes: 0, 1 to 6, 9, in the order length under 8, mark, version, counts, 9, length, turnouts,
+ * routes. Back come the code and the index, as by desk_sheet; with 9 the index is 0. Whatever does not get 9 gets the
+ * answer that desk_sheet gives; so what panel_sheet accepts, desk_sheet accepts too.
+ */
+uint32_t panel_sheet(const uint8_t *sheet, size_t sheet_len);
 
 #ifdef __cplusplus
 }

@@ -1,6 +1,6 @@
 /*
  * every_call: calls every function of works_desk.h on small inputs whose answers are known by hand. It prints 'every call: as expected'
- * and returns 0, or prints each call that differs and returns 1. It needs all three archives.
+ * and returns 0, or prints each call that differs and returns 1. It needs all four archives.
  */
 #include <inttypes.h>
 #include <stdio.h>
@@ -201,6 +201,60 @@ static void check_verdict(void)
     CHECK(desk_verdict_value(desk_verdict(1, 0, 1)), DESK_VERDICT_AT_DANGER);
 }
 
+/* One turnout and one route past a panel's limits. */
+enum { PLAIN_MOST = PANEL_SHEET_MOST + 3 + 33 };
+
+/* Writes a sheet of one zone, whose turnouts are alone and electric and whose routes run over turnout 0; gives its length. */
+static size_t plain_sheet(uint8_t *to, uint8_t turnouts, uint8_t routes)
+{
+    const uint8_t head[8] = {'S', 'P', 'T', 0, 1, turnouts, routes, 1};
+    size_t len = sizeof head;
+    memset(to, 0, PLAIN_MOST);
+    memcpy(to, head, sizeof head);
+    for (size_t n = 0; n < turnouts; n++) {
+        to[len + 1] = 255;
+        len += 3;
+    }
+    for (size_t n = 0; n < routes; n++) {
+        to[len + 8] = 1;
+        len += 33;
+    }
+    return len;
+}
+
+/* Within a panel's limits its answers are the desk's: a sheet that is accepted, its length, a bad turnout. */
+static void check_panel(void)
+{
+    uint8_t plain[PLAIN_MOST];
+    size_t len = plain_sheet(plain, PANEL_TURNOUTS, PANEL_ROUTES);
+    CHECK(len, PANEL_SHEET_MOST);
+    CHECK(panel_sheet(plain, len), DESK_E_ACCEPTED);
+    CHECK(panel_sheet(plain, len - 1), DESK_E_SHEET_LENGTH);
+    plain[53] = 1; /* turnout 15 in a zone that the station has not */
+    CHECK(desk_code(panel_sheet(plain, len)), DESK_E_SHEET_TURNOUT);
+    CHECK(desk_sheet_index(panel_sheet(plain, len)), 15);
+    CHECK(panel_sheet(plain, len), desk_sheet(plain, len));
+}
+
+/* Past the limits: a turnout more, a route more. The counts come before 9, the length and the records after it. */
+static void check_panel_limits(void)
+{
+    uint8_t plain[PLAIN_MOST];
+    size_t len = plain_sheet(plain, PANEL_TURNOUTS, PANEL_ROUTES + 1);
+    CHECK(panel_sheet(plain, len), DESK_E_PANEL_LIMITS);
+    CHECK(desk_sheet(plain, len), DESK_E_ACCEPTED);
+    len = plain_sheet(plain, PANEL_TURNOUTS + 1, PANEL_ROUTES);
+    CHECK(panel_sheet(plain, len), DESK_E_PANEL_LIMITS);
+    CHECK(desk_sheet(plain, len), DESK_E_ACCEPTED);
+    CHECK(panel_sheet(plain, len - 1), DESK_E_PANEL_LIMITS);
+    CHECK(desk_sheet(plain, len - 1), DESK_E_SHEET_LENGTH);
+    plain[11] = 1; /* turnout 1 in a zone that the station has not */
+    CHECK(panel_sheet(plain, len), DESK_E_PANEL_LIMITS);
+    CHECK(desk_sheet_index(desk_sheet(plain, len)), 1);
+    plain[7] = 0; /* no zones */
+    CHECK(panel_sheet(plain, len), DESK_E_SHEET_COUNTS);
+}
+
 int main(void)
 {
     check_sheet();
@@ -211,6 +265,8 @@ int main(void)
     check_unit();
     check_crossover();
     check_verdict();
+    check_panel();
+    check_panel_limits();
     if (differences != 0) {
         return 1;
     }

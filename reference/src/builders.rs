@@ -81,6 +81,14 @@ pub fn largest_station() -> Sheet {
     sheet
 }
 
+/// 16 turnouts, 8 routes, 2 zones, the most that the cabin panel takes: the largest station's zones 0 and 1, with four
+/// routes of each.
+pub fn largest_panel_station() -> Sheet {
+    let all = largest_station();
+    let routes = [&all.routes[..4], &all.routes[8..12]].concat();
+    Sheet { zones: 2, turnouts: all.turnouts[..16].to_vec(), routes }
+}
+
 /// 01, "Station K": the eleven records, all zone 0.
 pub fn journal_k() -> Vec<Message> {
     vec![

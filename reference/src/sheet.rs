@@ -1,4 +1,4 @@
-//! Reading of the station sheet. 01: "Station sheet".
+//! Reading of the station sheet. 01: "Station sheet". The cabin panel reads it with limits of its own (`panel`).
 
 use crate::set::{holds, members, Set};
 use crate::station::{Drive, Route, Station, Turnout};
@@ -8,6 +8,16 @@ pub(crate) const TURNOUT: usize = 3;
 pub(crate) const ROUTE: usize = 33;
 pub(crate) const NO_PARTNER: u8 = 255;
 
+/// The most turnouts and routes that a reader takes.
+#[derive(Clone, Copy, Debug, PartialEq, Eq)]
+pub struct Limits {
+    pub turnouts: u8,
+    pub routes: u8,
+}
+
+/// 02, M-102: "the desk keeps 64 and 64", the most that a sheet has.
+const DESK: Limits = Limits { turnouts: 64, routes: 64 };
+
 /// Why a sheet is refused; a bad record comes with its index.
 #[derive(Clone, Copy, Debug, PartialEq, Eq)]
 pub enum SheetFault {
@@ -15,6 +25,8 @@ pub enum SheetFault {
     Mark,
     Version,
     Counts,
+    /// 02, M-102: more turnouts or routes than the reader takes.
+    Limits,
     Turnout(u8),
     Route(u8),
 }
@@ -28,6 +40,7 @@ impl SheetFault {
             SheetFault::Counts => 4,
             SheetFault::Turnout(_) => 5,
             SheetFault::Route(_) => 6,
+            SheetFault::Limits => 9,
         }
     }
 
@@ -40,9 +53,14 @@ impl SheetFault {
     }
 }
 
-/// 01: "Order: under 8 bytes, mark, version, counts (zone byte included), length, turnouts, routes;
-/// the first bad record ends the reading."
+/// The desk's reading. Counts in range are within its limits: it never gives 9.
 pub fn read(sheet: &[u8]) -> Result<Station, SheetFault> {
+    read_within(sheet, DESK)
+}
+
+/// 01: "Order: under 8 bytes, mark, version, counts (zone byte included), length, turnouts, routes;
+/// the first bad record ends the reading." 02, M-102: 9 "after the counts are found in range and before the length".
+pub(crate) fn read_within(sheet: &[u8], limits: Limits) -> Result<Station, SheetFault> {
     let Some((header, records)) = sheet.split_first_chunk::<HEADER>() else {
         return Err(SheetFault::Length);
     };
@@ -55,6 +73,9 @@ pub fn read(sheet: &[u8]) -> Result<Station, SheetFault> {
     }
     if !(1..=64).contains(&turnouts) || routes > 64 || !(1..=8).contains(&zones) {
         return Err(SheetFault::Counts);
+    }
+    if turnouts > limits.turnouts || routes > limits.routes {
+        return Err(SheetFault::Limits);
     }
     let (turnout_bytes, route_bytes) = (TURNOUT * usize::from(turnouts), ROUTE * usize::from(routes));
     if records.len() != turnout_bytes + route_bytes {

@@ -27,6 +27,10 @@ pub fn sheet(bytes: &[u8], fault: SheetFault) -> String {
         SheetFault::Counts => {
             ("counts: P 1 to 64, R 0 to 64, Z 1 to 8", vec![format!("P {}, R {}, Z {}", bytes[5], bytes[6], bytes[7])])
         }
+        SheetFault::Limits => (
+            "more than 16 turnouts or 8 routes, the cabin panel's limits",
+            vec![format!("P {}, R {}", bytes[5], bytes[6])],
+        ),
         SheetFault::Turnout(n) => {
             let rule =
                 "zone below Z; a partner is below P, not itself, names it back, same zone and drive; drive 0 or 1";

@@ -1,0 +1,130 @@
+//! The cabin panel's reading: its limits, their place in the order of checks, and the desk's reading beside it.
+//! 02, M-102.
+
+use reference::builders::{largest_panel_station, largest_station, station_k, Sheet, ELECTRIC, HAND, NO_PARTNER};
+use reference::refusal::number;
+use reference::replay::sheet_number;
+use reference::writer::{write, RawStation};
+use reference::{panel, sheet};
+
+/// So many turnouts, each alone, and so many routes over turnout 0: a good sheet.
+fn sized(turnouts: usize, routes: usize) -> Sheet {
+    Sheet { zones: 1, turnouts: vec![[0, NO_PARTNER, HAND]; turnouts], routes: vec![(0, [1, 0, 0, 0]); routes] }
+}
+
+/// The sheet's bytes with the one at `at` replaced.
+fn with(sheet: &Sheet, at: usize, value: u8) -> Vec<u8> {
+    let mut bytes = sheet.bytes();
+    bytes[at] = value;
+    bytes
+}
+
+/// Code and index by the desk and by the panel.
+fn answers(bytes: &[u8]) -> [(u8, u8); 2] {
+    [sheet::read(bytes), panel::read(bytes)].map(|read| {
+        let [code, index, ..] = sheet_number(&read).to_le_bytes();
+        (code, index)
+    })
+}
+
+/// Desk and panel give the same station.
+fn both_accept(sheet: &Sheet) {
+    let bytes = sheet.bytes();
+    let station = sheet::read(&bytes).expect("a sheet that the desk accepts");
+    assert_eq!(panel::read(&bytes), Ok(station.clone()));
+    assert_eq!(panel::station(&bytes), RawStation::from(&station));
+}
+
+/// Desk and panel refuse by the same code and index, and the panel's station is the empty one.
+fn both_refuse(code: u8, index: u8, bytes: &[u8]) {
+    assert_eq!(answers(bytes), [(code, index); 2]);
+    assert_eq!(panel::station(bytes), RawStation::empty());
+}
+
+/// The panel refuses by 9, the desk answers otherwise.
+fn beyond(desk: (u8, u8), bytes: &[u8]) {
+    assert_eq!(answers(bytes), [desk, (9, 0)]);
+    let station = panel::station(bytes);
+    assert_eq!(station, RawStation::empty());
+    assert_eq!(number(&write(&station, &mut [0; 2_312])), 7);
+}
+
+#[test]
+fn within_the_limits() {
+    for sheet in [station_k(), largest_panel_station(), Sheet::new(8).turnout(7, ELECTRIC)] {
+        both_accept(&sheet);
+    }
+    for (turnouts, routes) in [(16, 8), (16, 0), (1, 8), (1, 0), (15, 7)] {
+        both_accept(&sized(turnouts, routes));
+    }
+    let largest = panel::station(&largest_panel_station().bytes());
+    assert_eq!((largest.turnouts, largest.routes, largest.zones), (16, 8, 2));
+}
+
+#[test]
+fn beyond_the_limits() {
+    for (turnouts, routes) in [(17, 8), (16, 9), (17, 9), (17, 0), (1, 9), (64, 0), (1, 64), (64, 64)] {
+        beyond((0, 0), &sized(turnouts, routes).bytes());
+    }
+    beyond((0, 0), &largest_station().bytes());
+}
+
+/// "before the length".
+#[test]
+fn before_length_and_records() {
+    for sheet in [sized(17, 8), sized(16, 9), sized(17, 9), sized(64, 64)] {
+        let bytes = sheet.bytes();
+        beyond((1, 0), &bytes[..bytes.len() - 1]);
+        beyond((1, 0), &bytes[..8]);
+        beyond((1, 0), &[bytes, vec![0]].concat());
+    }
+    beyond((5, 0), &with(&sized(17, 0), 8, 1));
+    beyond((5, 16), &with(&sized(17, 0), 8 + 3 * 16, 1));
+    beyond((6, 8), &with(&sized(1, 9), 8 + 3 + 33 * 8, 1));
+}
+
+/// "after the counts are found in range".
+#[test]
+fn after_the_counts() {
+    let seventeen = sized(17, 9);
+    both_refuse(1, 0, &seventeen.bytes()[..7]);
+    both_refuse(2, 0, &with(&seventeen, 2, b't'));
+    both_refuse(3, 0, &with(&seventeen, 4, 2));
+    both_refuse(3, 0, &with(&seventeen, 3, 1));
+    for (at, count) in [(5, 0), (5, 65), (5, 255), (6, 65), (6, 255), (7, 0), (7, 9)] {
+        both_refuse(4, 0, &with(&seventeen, at, count));
+    }
+}
+
+#[test]
+fn refusals_within_the_limits() {
+    let full = sized(16, 8);
+    let bytes = full.bytes();
+    both_refuse(1, 0, &[]);
+    both_refuse(1, 0, &bytes[..8]);
+    both_refuse(1, 0, &bytes[..319]);
+    both_refuse(1, 0, &[&bytes[..], &[0]].concat());
+    both_refuse(5, 15, &with(&full, 8 + 3 * 15, 1));
+    both_refuse(5, 15, &with(&full, 8 + 3 * 15 + 1, 16));
+    both_refuse(6, 7, &with(&full, 8 + 3 * 16 + 33 * 7, 1));
+    for (code, at, value) in [(2, 0, 0), (3, 4, 0), (4, 5, 0), (4, 7, 0), (4, 7, 9)] {
+        both_refuse(code, 0, &with(&full, at, value));
+    }
+}
+
+/// Every pair of counts, with eight bytes and no record: 4 out of range, 9 beyond the limits, and else the length.
+#[test]
+fn every_count() {
+    for turnouts in 0..=255 {
+        for routes in 0..=255 {
+            let header = [b'S', b'P', b'T', 0, 1, turnouts, routes, 8];
+            let code = match (turnouts, routes) {
+                (0 | 65.., _) | (_, 65..) => 4,
+                (17.., _) | (_, 9..) => 9,
+                _ => 1,
+            };
+            let desk = if code == 4 { 4 } else { 1 };
+            assert_eq!(answers(&header), [(desk, 0), (code, 0)], "{turnouts} turnouts, {routes} routes");
+        }
+    }
+}

@@ -149,6 +149,8 @@ fn usage() {
         &["make-sheet", "a", "b", "c"],
         &["copy-sheet", "a"],
         &["copy-sheet", "a", "b", "c"],
+        &["check-panel"],
+        &["check-panel", "a", "b"],
     ];
     for arguments in wrong {
         let output = workbench(arguments);
@@ -239,6 +241,32 @@ fn sheets_copied() {
     }
     assert!(failure(&["copy-sheet", &folder.path("missing"), &folder.path("new")]).contains("missing: "));
     assert!(!folder.0.join("new").exists());
+}
+
+/// 02, M-102: "Turned away: 9, more than 16 turnouts or 8 routes, .. before the length".
+#[test]
+fn sheets_for_the_panel() {
+    let folder = Folder::new("panel");
+    let taken = [
+        (station_k(), "3 turnouts, 1 route, 1 zone"),
+        (largest_panel_station(), "16 turnouts, 8 routes, 2 zones"),
+        (Sheet::new(8).turnout(7, HAND), "1 turnout, 0 routes, 8 zones"),
+    ];
+    for (sheet, counts) in taken {
+        let path = folder.file("sheet", sheet.bytes());
+        assert_eq!(text(&["check-panel", &path]), format!("the cabin panel takes the sheet: {counts}\n"));
+    }
+    let rule = "refused by 9: more than 16 turnouts or 8 routes, the cabin panel's limits. Here: ";
+    let over = [largest_panel_station().turnout(0, HAND), largest_panel_station().route(0, &[4], &[], &[], &[])];
+    for (sheet, counts) in over.iter().zip(["P 17, R 8", "P 16, R 9"]) {
+        let bytes = sheet.bytes();
+        for lent in [&bytes[..], &bytes[..bytes.len() - 1], &bytes[..8]] {
+            let path = folder.file("sheet", lent);
+            assert_eq!(failure(&["check-panel", &path]), format!("{rule}{counts}\n"));
+        }
+        text(&["show-sheet", &folder.file("sheet", &bytes)]); // the desk takes it
+    }
+    assert!(failure(&["check-panel", &folder.path("missing")]).contains("missing: "));
 }
 
 #[test]
@@ -440,7 +468,12 @@ fn refused_files() {
     for (bytes, expected) in cases {
         let path = folder.file("sheet", bytes);
         let copy = folder.path("copy");
-        let commands = [&["show-sheet", &path][..], &["explain", &path, &journal_path], &["copy-sheet", &path, &copy]];
+        let commands = [
+            &["show-sheet", &path][..],
+            &["explain", &path, &journal_path],
+            &["copy-sheet", &path, &copy],
+            &["check-panel", &path],
+        ];
         for arguments in commands {
             let said = failure(arguments);
             assert!(said.starts_with(expected), "{said}");

@@ -26,10 +26,8 @@ pub fn explain(station: &Station, journal: &[u8]) -> Result<String, Refusal> {
 
 fn opening(station: &Station, records: u32) -> String {
     format!(
-        "Station of {}, {}, {}; journal of {}. Times in seconds.\n",
-        words::count(station.turnouts.len(), "turnout"),
-        words::count(station.routes.len(), "route"),
-        words::count(usize::from(station.zones), "zone"),
+        "Station of {}; journal of {}. Times in seconds.\n",
+        words::station(station),
         words::count(records as usize, "record")
     )
 }

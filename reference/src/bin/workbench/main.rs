@@ -13,7 +13,7 @@ mod state;
 mod words;
 
 use reference::writer::{self, RawStation};
-use reference::{journal, sheet};
+use reference::{journal, panel, sheet};
 use std::io::{self, Write};
 use std::{env, fs, process};
 
@@ -24,6 +24,7 @@ usage: workbench show-sheet SHEET              the sheet as text
        workbench make-journal TEXT JOURNAL     such a text as a journal
        workbench explain SHEET JOURNAL         each record, its answer and what it leaves, in words
        workbench copy-sheet SHEET OUT          the sheet read, and written again by the writer
+       workbench check-panel SHEET             whether the cabin panel takes the sheet
 ";
 
 /// Why a command ends with 1.
@@ -44,6 +45,7 @@ fn main() {
         ["make-journal", text, journal] => make_journal(text, journal),
         ["explain", sheet, journal] => explain_files(sheet, journal),
         ["copy-sheet", sheet, out] => copy_sheet(sheet, out),
+        ["check-panel", sheet] => check_panel(sheet),
         _ => {
             eprint!("{USAGE}");
             process::exit(2);
@@ -118,6 +120,13 @@ fn copy_sheet(path: &str, out: &str) -> Result<String, Failure> {
     let written = writer::write(&station, &mut buffer);
     written.map_err(|refusal| Failure::Refused(refused::writing(&station, buffer.len(), refusal)))?;
     write_file(out, &buffer)
+}
+
+/// Reads the sheet as the cabin panel does.
+fn check_panel(path: &str) -> Result<String, Failure> {
+    let bytes = read_file(path)?;
+    let station = panel::read(&bytes).map_err(|fault| Failure::Refused(refused::sheet(&bytes, fault)))?;
+    Ok(format!("the cabin panel takes the sheet: {}\n", words::station(&station)))
 }
 
 fn read_file(path: &str) -> Result<Vec<u8>, Failure> {

@@ -4,6 +4,7 @@ use reference::clearance::{Channel, Clamp, Clearance, Position};
 use reference::message::{Aspect, Content, Form, Message};
 use reference::refusal::Refusal;
 use reference::set::{members, Set};
+use reference::station::Station;
 
 /// `{0,1}`.
 pub fn set(set: Set) -> String {
@@ -30,6 +31,16 @@ pub fn list(items: &[String]) -> String {
 /// `1 record`, `2 records`.
 pub fn count(number: usize, noun: &str) -> String {
     format!("{number} {noun}{}", if number == 1 { "" } else { "s" })
+}
+
+/// `3 turnouts, 1 route, 1 zone`.
+pub fn station(station: &Station) -> String {
+    let counts = [
+        count(station.turnouts.len(), "turnout"),
+        count(station.routes.len(), "route"),
+        count(usize::from(station.zones), "zone"),
+    ];
+    counts.join(", ")
 }
 
 pub fn position(position: Position) -> &'static str {

@@ -2,7 +2,10 @@
 
 use reference::message::{self, Message, RECORD};
 use reference::refusal::number;
-use reference::{builders, journal, replay, sheet, writer};
+use reference::{builders, journal, panel, replay, sheet, writer};
+
+/// Of 64 turnouts and 64 routes.
+const LONGEST_SHEET: usize = 2_312;
 
 #[derive(Default)]
 pub struct Cases {
@@ -172,5 +175,19 @@ impl Cases {
         assert!(code == 0 || written == buffer, "case {}", self.count + 1);
         let line = [u32::from(answer[0]), u32::from(answer[1]), sum32(&written)];
         self.put(11, [0, 0], sheet, buffer, code, &line);
+    }
+
+    /// Op 12: a sheet read for the cabin panel, with the code and index stated; then the station that the reading left
+    /// written into a buffer of zeros, as long as the longest sheet: 7, and still zeros, where the sheet was refused.
+    pub fn panel(&mut self, code: u8, index: u8, sheet: &[u8]) {
+        let answer = panel::read(sheet).map_or_else(|fault| [fault.number(), fault.index()], |_| [0, 0]);
+        assert_eq!(answer[1], index, "case {}", self.count + 1);
+        let mut written = [0; LONGEST_SHEET];
+        let writing = number(&writer::write(&panel::station(sheet), &mut written));
+        let (stated, bytes) = if code == 0 { (0, sheet) } else { (7, &[][..]) };
+        assert!(writing == stated && written.starts_with(bytes), "case {}", self.count + 1);
+        assert!(written[bytes.len()..].iter().all(|&byte| byte == 0), "case {}", self.count + 1);
+        let line = [u32::from(answer[0]), u32::from(answer[1]), u32::from(writing), sum32(&written)];
+        self.put(12, [0, 0], sheet, &[], code, &line);
     }
 }

@@ -7,6 +7,7 @@ mod copies;
 mod journals;
 mod kinds;
 mod lists;
+mod panels;
 mod records;
 mod scenes;
 mod sheets;
@@ -33,6 +34,7 @@ fn main() {
     signal_works::add(&mut cases);
     copies::add(&mut cases);
     both_ends::add(&mut cases);
+    panels::add(&mut cases);
     println!("{} cases, {} bytes; stdout {} bytes", cases.count, cases.bytes.len(), cases.stdout.len());
     assert!(cases.bytes.len() <= CASES_LIMIT && cases.stdout.len() <= STDOUT_LIMIT);
     let write = |name: &str, bytes: &[u8]| fs::write(Path::new(&folder).join(name), bytes);

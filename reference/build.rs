@@ -3,7 +3,8 @@
 use std::env;
 
 /// The last is not shipped: it lends the writer any station, for the comparison.
-const ARCHIVES: [&str; 4] = ["works_desk_journal", "works_desk_unit", "works_desk_signals", "station_trial"];
+const ARCHIVES: [&str; 5] =
+    ["works_desk_journal", "works_desk_unit", "works_desk_signals", "works_desk_panel", "station_trial"];
 
 fn main() {
     println!("cargo:rerun-if-env-changed=DESK_LIB");

@@ -7,6 +7,7 @@ use crate::trial::VALUES;
 mod c {
     extern "C" {
         pub fn desk_sheet(sheet: *const u8, len: usize) -> u32;
+        pub fn panel_sheet(sheet: *const u8, len: usize) -> u32;
         pub fn desk_copy_sheet(sheet: *const u8, sheet_len: usize, buffer: *mut u8, len: usize) -> u32;
         pub fn trial_write_sheet(values: *const u8, values_len: usize, buffer: *mut u8, len: usize) -> u8;
         pub fn desk_record(record: *const u8, len: usize) -> u8;
@@ -81,6 +82,11 @@ mod c {
 /// Code + 256 x index of the bad record.
 pub fn sheet(sheet: &[u8]) -> u32 {
     unsafe { c::desk_sheet(sheet.as_ptr(), sheet.len()) }
+}
+
+/// The cabin panel's reading, packed as by `sheet`.
+pub fn panel_sheet(sheet: &[u8]) -> u32 {
+    unsafe { c::panel_sheet(sheet.as_ptr(), sheet.len()) }
 }
 
 /// Packed as by `sheet`.

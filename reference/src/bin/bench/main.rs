@@ -5,9 +5,11 @@ mod inputs;
 mod stack;
 
 use reference::message::RECORD;
+use reference::sheet::SheetFault;
+use reference::station::Station;
 use reference::unit::{self, DESK};
 use reference::writer::{self, RawStation};
-use reference::{library, replay, sheet, trial};
+use reference::{builders, library, panel, replay, sheet, trial};
 use std::hint::black_box;
 use std::time::Instant;
 
@@ -97,6 +99,26 @@ fn units<'a>(name: &'a str, sheet: &'a [u8], records: &'a [[u8; RECORD]], sheet_
     }
 }
 
+/// A good sheet read, by the desk or by the panel.
+fn read<'a>(
+    name: &'a str,
+    sheet: &'a [u8],
+    by_library: fn(&[u8]) -> u32,
+    by_reference: fn(&[u8]) -> Result<Station, SheetFault>,
+) -> Pair<'a> {
+    assert_eq!((by_library(sheet), by_reference(sheet).is_ok()), (0, true));
+    Pair {
+        name,
+        units: 1,
+        library: Box::new(move || {
+            black_box(by_library(black_box(sheet)));
+        }),
+        reference: Box::new(move || {
+            black_box(by_reference(black_box(sheet)).is_ok());
+        }),
+    }
+}
+
 /// A good sheet's station, handed over by its values, written.
 fn written<'a>(name: &'a str, sheet: &[u8]) -> Pair<'a> {
     let station = RawStation::from(&sheet::read(sheet).expect("a good sheet"));
@@ -162,20 +184,13 @@ fn verdicts<'a>() -> Pair<'a> {
 fn main() {
     let (k, talk_k) = (inputs::station_k(), inputs::talk_k());
     let (large, talk) = (inputs::largest_station(), inputs::long_talk());
+    let panel_sheet = builders::largest_panel_station().bytes();
     let (records_k, records) = (inputs::accepted(&k, &talk_k), inputs::accepted(&large, &talk));
     let pairs = [
         replayed("replay, station K, a message", &k, &talk_k, inputs::RECORDS),
         replayed("replay, largest station, a message", &large, &talk, inputs::RECORDS),
-        Pair {
-            name: "largest sheet",
-            units: 1,
-            library: Box::new(|| {
-                black_box(library::sheet(black_box(&large)));
-            }),
-            reference: Box::new(|| {
-                black_box(sheet::read(black_box(&large)).is_ok());
-            }),
-        },
+        read("largest sheet", &large, library::sheet, sheet::read),
+        read("largest panel sheet", &panel_sheet, library::panel_sheet, panel::read),
         written("largest sheet written", &large),
         verdicts(),
         units("unit_apply, station K, a message", &k, &records_k, true),

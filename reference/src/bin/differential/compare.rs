@@ -1,5 +1,6 @@
 //! The comparisons: each call made of the library and of this implementation, on the same bytes.
-//! Those of journals stand in `journals`, those of units in `units`, those of the writer in `writers`.
+//! Those of journals stand in `journals`, those of units in `units`, those of the writer in `writers`, those of the
+//! cabin panel in `panels`.
 
 use crate::lists::Talk;
 use crate::rng::Rng;
@@ -84,6 +85,7 @@ impl Comparison {
             self.sheet(&damaged)?;
         }
         self.good_copies(&good)?;
+        self.panel_sheets()?;
         self.stations()?;
         let station = sheet::read(&good).expect("the generator makes good sheets");
 
@@ -139,7 +141,9 @@ impl Comparison {
         self.tally.inputs += 1;
         self.tally.code(reference as u8);
         let files = Files { sheet: bytes, journal: &[] };
-        files.same(|| "desk_sheet(sheet)".into(), library::sheet(bytes), reference)?;
+        let desk = library::sheet(bytes);
+        files.same(|| "desk_sheet(sheet)".into(), desk, reference)?;
+        self.panel(bytes, desk)?;
         self.copy(bytes)?;
         if reference != 0 && self.rng.chance(10) {
             // A refused sheet refuses the calls above it, whatever the journal.

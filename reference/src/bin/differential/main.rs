@@ -6,6 +6,8 @@ mod demand;
 mod ends;
 mod journals;
 mod lists;
+mod panel_sheets;
+mod panels;
 mod raw_stations;
 mod rng;
 mod stations;
@@ -45,9 +47,11 @@ fn main() {
     println!("no difference");
 }
 
-/// All verdicts, then rounds until the count is reached; the last round is finished.
+/// All verdicts, all counts near the panel's limits, then rounds until the count is reached; the last round is
+/// finished.
 fn run(comparison: &mut Comparison, count: u64) -> Result<(), Difference> {
     comparison.all_verdicts()?;
+    comparison.all_panel_counts()?;
     while comparison.tally.inputs < count {
         comparison.round()?;
     }

@@ -12,6 +12,11 @@ pub fn sheet(rng: &mut Rng) -> Sheet {
         8 => (rng.within(21..=64), rng.within(0..=64), rng.within(1..=8)),
         _ => (64, 64, 8),
     };
+    sized(rng, turnouts, routes, zones)
+}
+
+/// A good sheet with these counts.
+pub fn sized(rng: &mut Rng, turnouts: u32, routes: u32, zones: u32) -> Sheet {
     let mut sheet = Sheet::new(zones as u8);
     for _ in 0..turnouts {
         let zone = rng.within(0..=zones - 1) as u8;
@@ -127,7 +132,8 @@ fn damage(rng: &mut Rng, sheet: &Sheet, bytes: &mut Vec<u8>) {
     }
 }
 
-fn put(bytes: &mut [u8], at: usize, value: u8) {
+/// Replaces the byte, if it is there.
+pub fn put(bytes: &mut [u8], at: usize, value: u8) {
     if let Some(byte) = bytes.get_mut(at) {
         *byte = value;
     }

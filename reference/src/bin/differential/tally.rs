@@ -1,9 +1,10 @@
 //! Counts of what occurred, so that a run that never met a code, kind, regime or verdict is no test.
 
 use crate::ends::Ends;
+use crate::panels::Panels;
 
-const CODES: [u8; 28] =
-    [0, 1, 2, 3, 4, 5, 6, 7, 8, 10, 11, 12, 13, 14, 15, 16, 17, 18, 19, 20, 21, 22, 30, 31, 32, 33, 60, 61];
+const CODES: [u8; 29] =
+    [0, 1, 2, 3, 4, 5, 6, 7, 8, 9, 10, 11, 12, 13, 14, 15, 16, 17, 18, 19, 20, 21, 22, 30, 31, 32, 33, 60, 61];
 const HEARD: [u8; 13] = [0, 11, 12, 13, 14, 15, 16, 17, 18, 19, 20, 21, 22];
 /// Of the writer on a station, and of a sheet copied.
 const WRITTEN: [u8; 3] = [0, 7, 8];
@@ -28,6 +29,7 @@ pub struct Tally {
     regimes: [u64; 3],
     verdicts: [u64; 7],
     pub ends: Ends,
+    panels: Panels,
 }
 
 impl Tally {
@@ -45,6 +47,7 @@ impl Tally {
             regimes: [0; 3],
             verdicts: [0; 7],
             ends: Ends::default(),
+            panels: Panels::default(),
         }
     }
 
@@ -80,6 +83,13 @@ impl Tally {
         self.copied[usize::from(code)] += 1;
     }
 
+    /// A sheet read by the panel, its answer, and the desk's.
+    pub fn panel(&mut self, sheet: &[u8], panel: u32, desk: u32) {
+        self.inputs += 1;
+        self.code(panel as u8);
+        self.panels.read(sheet, panel, desk);
+    }
+
     pub fn movement(&mut self, [code, regime, ..]: [u8; 4]) {
         self.questions += 1;
         self.code(code);
@@ -102,13 +112,14 @@ impl Tally {
     /// Prints the counts; returns what never occurred.
     pub fn report(&self) -> Vec<String> {
         println!(
-            "inputs {}: heard {}, lists {}, stations written {}, sheets copied {}; beside them questions {}, \
-             records heard by a unit {}",
+            "inputs {}: heard {}, lists {}, stations written {}, sheets copied {}, read by the panel {}; \
+             beside them questions {}, records heard by a unit {}",
             self.inputs,
             self.heard,
             self.lists,
             self.written.iter().sum::<u64>(),
             self.copied.iter().sum::<u64>(),
+            self.panels.sheets(),
             self.questions,
             self.units
         );
@@ -122,6 +133,7 @@ impl Tally {
         counts.extend(REGIMES.iter().zip(self.regimes).map(|(regime, count)| (format!("regime {regime}"), count)));
         counts.extend((1..=6).map(|verdict| (format!("verdict {verdict}"), self.verdicts[verdict])));
         counts.extend(self.ends.counts());
+        counts.extend(self.panels.counts());
         for (name, count) in &counts {
             println!("{name}: {count}");
         }

@@ -81,6 +81,11 @@ pub fn largest_station() -> Sheet {
     sheet
 }
 
+/// So many turnouts, each alone, and so many routes over turnout 0, in one zone: good if the counts are.
+pub fn plain_station(turnouts: usize, routes: usize) -> Sheet {
+    Sheet { zones: 1, turnouts: vec![[0, NO_PARTNER, ELECTRIC]; turnouts], routes: vec![(0, [1, 0, 0, 0]); routes] }
+}
+
 /// 16 turnouts, 8 routes, 2 zones, the most that the cabin panel takes: the largest station's zones 0 and 1, with four
 /// routes of each.
 pub fn largest_panel_station() -> Sheet {

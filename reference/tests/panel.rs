@@ -1,16 +1,11 @@
 //! The cabin panel's reading: its limits, their place in the order of checks, and the desk's reading beside it.
 //! 02, M-102.
 
-use reference::builders::{largest_panel_station, largest_station, station_k, Sheet, ELECTRIC, HAND, NO_PARTNER};
+use reference::builders::{largest_panel_station, largest_station, plain_station, station_k, Sheet, ELECTRIC};
 use reference::refusal::number;
 use reference::replay::sheet_number;
 use reference::writer::{write, RawStation};
 use reference::{panel, sheet};
-
-/// So many turnouts, each alone, and so many routes over turnout 0: a good sheet.
-fn sized(turnouts: usize, routes: usize) -> Sheet {
-    Sheet { zones: 1, turnouts: vec![[0, NO_PARTNER, HAND]; turnouts], routes: vec![(0, [1, 0, 0, 0]); routes] }
-}
 
 /// The sheet's bytes with the one at `at` replaced.
 fn with(sheet: &Sheet, at: usize, value: u8) -> Vec<u8> {
@@ -55,7 +50,7 @@ fn within_the_limits() {
         both_accept(&sheet);
     }
     for (turnouts, routes) in [(16, 8), (16, 0), (1, 8), (1, 0), (15, 7)] {
-        both_accept(&sized(turnouts, routes));
+        both_accept(&plain_station(turnouts, routes));
     }
     let largest = panel::station(&largest_panel_station().bytes());
     assert_eq!((largest.turnouts, largest.routes, largest.zones), (16, 8, 2));
@@ -64,7 +59,7 @@ fn within_the_limits() {
 #[test]
 fn beyond_the_limits() {
     for (turnouts, routes) in [(17, 8), (16, 9), (17, 9), (17, 0), (1, 9), (64, 0), (1, 64), (64, 64)] {
-        beyond((0, 0), &sized(turnouts, routes).bytes());
+        beyond((0, 0), &plain_station(turnouts, routes).bytes());
     }
     beyond((0, 0), &largest_station().bytes());
 }
@@ -72,21 +67,21 @@ fn beyond_the_limits() {
 /// "before the length".
 #[test]
 fn before_length_and_records() {
-    for sheet in [sized(17, 8), sized(16, 9), sized(17, 9), sized(64, 64)] {
+    for sheet in [plain_station(17, 8), plain_station(16, 9), plain_station(17, 9), plain_station(64, 64)] {
         let bytes = sheet.bytes();
         beyond((1, 0), &bytes[..bytes.len() - 1]);
         beyond((1, 0), &bytes[..8]);
         beyond((1, 0), &[bytes, vec![0]].concat());
     }
-    beyond((5, 0), &with(&sized(17, 0), 8, 1));
-    beyond((5, 16), &with(&sized(17, 0), 8 + 3 * 16, 1));
-    beyond((6, 8), &with(&sized(1, 9), 8 + 3 + 33 * 8, 1));
+    beyond((5, 0), &with(&plain_station(17, 0), 8, 1));
+    beyond((5, 16), &with(&plain_station(17, 0), 8 + 3 * 16, 1));
+    beyond((6, 8), &with(&plain_station(1, 9), 8 + 3 + 33 * 8, 1));
 }
 
 /// "after the counts are found in range".
 #[test]
 fn after_the_counts() {
-    let seventeen = sized(17, 9);
+    let seventeen = plain_station(17, 9);
     both_refuse(1, 0, &seventeen.bytes()[..7]);
     both_refuse(2, 0, &with(&seventeen, 2, b't'));
     both_refuse(3, 0, &with(&seventeen, 4, 2));
@@ -98,7 +93,7 @@ fn after_the_counts() {
 
 #[test]
 fn refusals_within_the_limits() {
-    let full = sized(16, 8);
+    let full = plain_station(16, 8);
     let bytes = full.bytes();
     both_refuse(1, 0, &[]);
     both_refuse(1, 0, &bytes[..8]);

@@ -2,7 +2,7 @@
 
 use crate::rng::Rng;
 use crate::stations::{self, put};
-use reference::builders::{Sheet, ELECTRIC, NO_PARTNER};
+use reference::builders::{plain_station, Sheet};
 
 /// Counts on both sides of the panel's limits and of the sheet's.
 const TURNOUTS: [u8; 10] = [0, 1, 15, 16, 17, 18, 63, 64, 65, 255];
@@ -14,16 +14,12 @@ const ZONES: [u8; 4] = [0, 1, 8, 9];
 pub fn all_counts() -> impl Iterator<Item = Vec<u8>> {
     let routes = |turnouts: u8| ROUTES.map(|routes| (turnouts, routes));
     let counts = TURNOUTS.into_iter().flat_map(routes);
-    counts.flat_map(|(turnouts, routes)| ZONES.map(|zones| simple(turnouts, routes, zones))).flat_map(variants)
+    counts.flat_map(|(turnouts, routes)| ZONES.map(|zones| plain(turnouts, routes, zones))).flat_map(variants)
 }
 
-/// Every turnout alone in zone 0, every route over turnout 0: good if its counts are.
-fn simple(turnouts: u8, routes: u8, zones: u8) -> Sheet {
-    Sheet {
-        zones,
-        turnouts: vec![[0, NO_PARTNER, ELECTRIC]; usize::from(turnouts)],
-        routes: vec![(0, [1, 0, 0, 0]); usize::from(routes)],
-    }
+/// Good if its counts are.
+fn plain(turnouts: u8, routes: u8, zones: u8) -> Sheet {
+    Sheet { zones, ..plain_station(usize::from(turnouts), usize::from(routes)) }
 }
 
 fn variants(sheet: Sheet) -> Vec<Vec<u8>> {

@@ -1,4 +1,5 @@
--- The code and a record's place come back where the code is below 256.
+-- Every value of a packed answer comes back where it is below 256; a record's place needs that of
+-- the code alone.
 use mathlib.Core.Bool.{Bool, true, false}
 use mathlib.Core.Path.{_≡_, refl, sym, ap, _∙_}
 use Prim.Native.Nat.{ℕ, _+_, _*_, _<_}
@@ -7,10 +8,16 @@ use native.Mathlib.Nat.{zero-add, div-eq-of-lt, mod-eq-of-lt}
 use lib.Dec.{eqb}
 use borrow.Author.Tests.{eqb-true, eq-eqb}
 use Rattle.packing.specs.Bytes.{above, byteOf}
-use Rattle.packing.proofs.Bytes.{lowest-byte, above-next}
+use Rattle.packing.proofs.Bytes.{lowest-byte, above-next, two-bytes}
+use Rattle.sheet.specs.declared.Finding.{Finding}
 use Rattle.journal.specs.Journal.{recordPlace}
 use Rattle.works_desk_journal.specs.Packed.{recordPacked}
-use Rattle.works_desk_journal.specs.Unpacked.{RecordBytes}
+use Rattle.works_desk_journal.specs.Unpacked.{FindingBytes, RecordBytes}
+
+pub finding-bytes : (f : Finding) → f .code < 256 → f .index < 256 → FindingBytes f
+finding-bytes f code-fits index-fits =
+    let both = two-bytes (f .code) (f .index) code-fits index-fits in
+    record { code-byte = both .low-byte; index-byte = both .next-byte }
 
 -- a record's place stands above the code 0
 place-packed : (code n : ℕ) → code ≡ 0 → recordPacked code n ≡ 0 + 256 * recordPlace n

@@ -5,6 +5,7 @@ ghost use Rattle.rules.specs.Kinds.{answered, heardOn};
 
 mod codes;
 
+use durations::minutes_between;
 use message::Message;
 use rules::Concerned;
 use rules::clearances::is_efficient;
@@ -28,7 +29,6 @@ use zone::work_of;
 use zone::works::agreed_at;
 use zone::works::agreed_from;
 use zone::works::asked_for;
-use zone::works::minutes_between;
 use zone::works::opened_to;
 use zone::works::restored_of;
 use zone::works::shut_to;

@@ -17,7 +17,8 @@ use Rattle.zone.specs.declared.Movement.{Movement}
 use Rattle.zone.specs.declared.Movement.the-variants.{NoMovement}
 use Rattle.zone.specs.declared.Zone.{Zone}
 use Rattle.zone.specs.declared.Answer.{Answer}
-use Rattle.zone.specs.Work.{hasWork, isAgreed, underForm, manner, workSet, agreedAt, minutesBetween}
+use Rattle.durations.specs.Minutes.{minutesBetween}
+use Rattle.zone.specs.Work.{hasWork, isAgreed, underForm, manner, workSet, agreedAt}
 use Rattle.zone.specs.Work.{askedFor, agreedFrom, openedTo, shutTo, restoredOf}
 use Rattle.zone.specs.Movement.{isStanding, isOrdered, clearedSet, workedTurnouts, regimeOn}
 use Rattle.zone.specs.Movement.{orderRefused, movementFor, clearedAt, orderedAs}

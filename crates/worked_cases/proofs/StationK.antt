@@ -10,7 +10,7 @@ use Rattle.layout.specs.Layout.{headerNumber, stationIn}
 use Rattle.sheet.specs.Partners.{goodTurnout, badTurnout}
 use Rattle.sheet.specs.Sheet.{goodRoute, badRoute, routesJudged, judged, readSheet}
 use Rattle.signals.specs.Answer as Verdicts
-use Rattle.zone.specs.Work.{minutesBetween}
+use Rattle.durations.specs.Minutes.{minutesBetween}
 use Rattle.zone.specs.Movement.{regimeOn}
 use Rattle.zone.specs.Trains.{movementUnder, noPlace, namedStanding, clearedStanding, placed}
 use Rattle.zone.specs.Trains.{changed}

@@ -1,6 +1,6 @@
 -- The work of a zone: none, asked or agreed; what it says, and what the kinds do to it.
 use mathlib.Core.Bool.{Bool, true, false, _&&_}
-use Prim.Native.Nat.{ℕ, _-_, _/_}
+use Prim.Native.Nat.{ℕ}
 use lib.Dec.{eqb}
 use Rattle.sets.specs.Sets.{union, without}
 use Rattle.zone.specs.declared.Agreement.{Agreement}
@@ -56,11 +56,6 @@ abbrev pub agreedAt : Work → ℕ
 agreedAt NoWork = 0
 agreedAt (Asked q) = 0
 agreedAt (Agreed g) = g .since
-
--- "whole minutes since agreement, seconds divided by 60 and cut"; "an agreement later than the
--- restoration gives 0 minutes"
-unfoldable pub minutesBetween : ℕ → ℕ → ℕ
-minutesBetween since now = (now - since) / 60
 
 -- 1: "work asked"
 abbrev pub askedFor : ℕ → ℕ → ℕ → Work

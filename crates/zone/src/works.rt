@@ -10,7 +10,6 @@ ghost use Rattle.zone.specs.Work.{
   agreedSet,
   openSet,
   agreedAt,
-  minutesBetween,
   askedFor,
   agreedFrom,
   withSets,
@@ -113,16 +112,6 @@ pub fn agreed_at(w: Work) -> u32
         Work::Asked(_) => 0,
         Work::Agreed(g) => g.since,
     }
-}
-
-// Whole minutes from an agreement to a time; 0 for an agreement that is later.
-pub fn minutes_between(since: u32, now: u32) -> u32
-    ensures { λ r. ⌜ r ≡ minutesBetween since «now» ⌝ }
-{
-    if now < since {
-        return 0;
-    }
-    (now - since) / 60
 }
 
 // Work asked for.

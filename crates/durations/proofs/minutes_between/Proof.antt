@@ -1,9 +1,9 @@
 use mathlib.Core.Path.{_≡_, refl}
 use Prim.Native.Nat.{_-_}
 use native.Mathlib.Omega.{arith}
-use Rattle.zone.specs.Work.{minutesBetween}
-use Rattle.zone.proofs.works.minutes_between.Statement.{statement}
-use Rattle.zone.proofs.works.minutes_between.Tie as tie
+use Rattle.durations.specs.Minutes.{minutesBetween}
+use Rattle.durations.proofs.minutes_between.Statement.{statement}
+use Rattle.durations.proofs.minutes_between.Tie as tie
 
 returns : tie.Need-returns
 unfolding minutesBetween

@@ -1,13 +1,32 @@
-// How long a work took, in minutes.
+// How long a work took, in minutes. The rule is in specs/Minutes.antt, what the documents ask of it in specs/Laws.antt.
 ghost use mathlib.Core.Path.{_≡_};
-ghost use Rattle.durations.specs.Minutes.{minutesBetween};
+ghost use Rattle.durations.specs.Minutes.{goesUp, nearestMinute, minutesBetween};
 
-// Whole minutes from an agreement to a time; 0 for an agreement that is later.
+// Whether whole minutes and seconds over go to the next minute: it is the nearer one, or both are as near and the
+// next is the even one.
+fn goes_up(minutes: u32, over: u32) -> bool
+    ensures { λ r. ⌜ r ≡ goesUp minutes over ⌝ }
+{
+    (over > 30) | ((over == 30) & (minutes % 2 == 1))
+}
+
+// The minutes of a duration, to the nearest; an exact half minute goes to the even one.
+fn nearest_minute(seconds: u32) -> u32
+    ensures { λ r. ⌜ r ≡ nearestMinute seconds ⌝ }
+{
+    let minutes = seconds / 60;
+    if goes_up(minutes, seconds % 60) {
+        return minutes + 1;
+    }
+    minutes
+}
+
+// Minutes from an agreement to a time, to the nearest; 0 for an agreement that is later.
 pub fn minutes_between(since: u32, now: u32) -> u32
     ensures { λ r. ⌜ r ≡ minutesBetween since «now» ⌝ }
 {
     if now < since {
         return 0;
     }
-    (now - since) / 60
+    nearest_minute(now - since)
 }

@@ -235,7 +235,8 @@ moved kind =
 unfoldable pub recorderAfter : ℕ → Bool → Message → Bool
 recorderAfter kind working m = cond (eqb kind 12) (eqb (m .d0) 1) working
 
--- "Kind 11, accepted, also returns whole minutes since agreement ..; every other answer has 0."
+-- "Kind 11, accepted, also returns whole minutes since agreement ..; every other answer has 0." How
+-- seconds become minutes is document 02's, M-103
 unfoldable pub minutesFor : ℕ → Work → Message → ℕ
 minutesFor kind w m = cond (eqb kind 11) (minutesBetween (agreedAt w) (m .time)) 0
 

@@ -3,7 +3,7 @@
 use mathlib.Core.Bool.{Bool, true, false}
 use mathlib.Core.List.{List, [], _∷_, _++_, map, foldr}
 use mathlib.Core.Path.{_≡_}
-use Prim.Native.Nat.{ℕ}
+use Prim.Native.Nat.{ℕ, _+_}
 use lib.ListN.{take, replicate}
 use Rattle.message.specs.declared.Message.{Message}
 use Rattle.message.specs.Record.{encoded, WriteAnswer}
@@ -76,7 +76,8 @@ journalK =
 abbrev replayedK : WriteAnswer
 replayedK = replayed sheetK journalK (replicate 55 0)
 
--- "Output, whole", in ASCII: the numbers of a line, a space (32) between them, a line end (10)
+-- "Output, whole", in ASCII: the numbers of a line, a space (32) between them, a line end (10); the
+-- last line by document 02, M-103: "In station K the last line becomes '11 0 2'"
 abbrev linesK : List ℕ
 linesK =
     49 ∷ 32 ∷ 48 ∷ 32 ∷ 48 ∷ 10
@@ -89,7 +90,7 @@ linesK =
     ∷ 56 ∷ 32 ∷ 48 ∷ 32 ∷ 48 ∷ 10
     ∷ 57 ∷ 32 ∷ 49 ∷ 57 ∷ 32 ∷ 48 ∷ 10
     ∷ 49 ∷ 48 ∷ 32 ∷ 48 ∷ 32 ∷ 48 ∷ 10
-    ∷ 49 ∷ 49 ∷ 32 ∷ 48 ∷ 32 ∷ 49 ∷ 10
+    ∷ 49 ∷ 49 ∷ 32 ∷ 48 ∷ 32 ∷ 50 ∷ 10
     ∷ []
 
 abbrev reply : ℕ → ℕ → Reply
@@ -117,8 +118,11 @@ verbalMovement = verbal ++ (naming 5 20 600 0 0 0 ∷ [])
 abbrev recorderOut : List Message
 recorderOut = verbalMovement ++ (naming 12 25 0 0 0 0 ∷ [])
 
-abbrev restored : ℕ → List Message
-restored time = verbal ++ (plain 11 time 9 ∷ [])
+-- all restored so many seconds after the agreement, and the minutes of it
+abbrev RestoredAfter : ℕ → ℕ → Type 0
+RestoredAfter seconds minutes =
+    answersK (verbal ++ (plain 11 (10 + seconds) 9 ∷ []))
+    ≡ reply 0 0 ∷ reply 0 0 ∷ reply 0 minutes ∷ []
 
 -- {0,1} agreed under M.45, and a movement over route 0
 abbrev pub crossover : List Message
@@ -158,7 +162,7 @@ pub record Cases : Type 0 where
       ∷ reply 0 0
       ∷ reply 19 0
       ∷ reply 0 0
-      ∷ reply 0 1
+      ∷ reply 0 2
       ∷ []
   -- the same as the program prints it, from the bytes of the two files
   pub journal : records journalK ≡ map encoded messagesK
@@ -200,9 +204,13 @@ pub record Cases : Type 0 where
   -- "Time equal to the last: 0; one less: 14."
   pub time-equal : answersK (naming 1 5 7 3 0 1 ∷ plain 2 5 7 ∷ []) ≡ reply 0 0 ∷ reply 0 0 ∷ []
   pub time-less : answersK (naming 1 5 7 3 0 1 ∷ plain 2 4 7 ∷ []) ≡ reply 0 0 ∷ reply 14 0 ∷ []
-  -- "59 s: 0 minutes; 60 s: 1."
-  pub seconds-59 : answersK (restored 69) ≡ reply 0 0 ∷ reply 0 0 ∷ reply 0 0 ∷ []
-  pub seconds-60 : answersK (restored 70) ≡ reply 0 0 ∷ reply 0 0 ∷ reply 0 1 ∷ []
+  -- "60 s: 1"; document 02, M-103: "30 seconds give 0, 90 give 2, 150 give 2 .. and the case of 59
+  -- seconds becomes 1."
+  pub seconds-30 : RestoredAfter 30 0
+  pub seconds-59 : RestoredAfter 59 1
+  pub seconds-60 : RestoredAfter 60 1
+  pub seconds-90 : RestoredAfter 90 2
+  pub seconds-150 : RestoredAfter 150 2
   -- "Line 1, by day, not held, no SSC, no lights: signal 1 gives 3, signal 2 gives 2; line 2 signal
   -- 1 gives 5."
   pub signal-1 : Verdicts.judged 1 1 2 ≡ record { code = 0; verdict = 3 }

@@ -1,6 +1,5 @@
-use mathlib.Core.Path.{_≡_, refl}
-use Prim.Native.Nat.{_-_}
-use native.Mathlib.Omega.{arith}
+use borrow.Author.Needs.{needs}
+use borrow.Author.Tests.{lt-ltb, le-ltb}
 use Rattle.durations.specs.Minutes.{minutesBetween}
 use Rattle.durations.proofs.minutes_between.Statement.{statement}
 use Rattle.durations.proofs.minutes_between.Tie as tie
@@ -9,13 +8,13 @@ returns : tie.Need-returns
 unfolding minutesBetween
 returns c =
     let a = c .before .args in
-    let none : a .now - a .since ≡ 0 = omega arith in
-    rw none
+    rw (lt-ltb (a .now) (a .since) (c .if1 .taken))
 
 returns-2 : tie.Need-returns-2
 unfolding minutesBetween
 returns-2 c =
-    refl
+    let a = c .before .before .args in
+    rw (le-ltb (a .now) (a .since) (c .before .if1 .left), c .nearest-minute .ensures)
 
 pub minutes-between-spec : {M : Type 1} → statement M
-minutes-between-spec = tie.close (tie.spec returns returns-2)
+minutes-between-spec = tie.close (tie.spec returns (λ c κs. search needs) returns-2)

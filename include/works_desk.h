@@ -30,8 +30,8 @@
 extern "C" {
 #endif
 
-/* The version of this interface, raised when a call, a code, a packing or a field of a record changes. */
-#define DESK_INTERFACE_VERSION 4
+/* The version of this interface, raised when a call, a code, a packing, a field of a record or what an answer says changes. */
+#define DESK_INTERFACE_VERSION 5
 
 /* The version of a desk's 520 bytes, their byte 0. */
 #define DESK_BYTES_VERSION 1
@@ -158,7 +158,8 @@ uint8_t desk_write_record(uint8_t kind, uint8_t zone, uint32_t time, uint32_t id
 /*
  * Hears every record of a journal (16 + 32 x count bytes or more), from a fresh desk, and writes an answer for each into `answers`
  * (5 x count bytes or more; those past them stay): its code (0, 11 to 22), its minutes. Minutes are those from the agreement to an
- * accepted kind 11, else 0. Codes of the call: 0, the sheet's, 30, 60; if it is not 0 nothing is written.
+ * accepted kind 11, to the nearest, an exact half minute to the even one (30 s: 0, 90 s: 2, 150 s: 2); else 0. Codes of the call: 0, the
+ * sheet's, 30, 60; if it is not 0 nothing is written.
  */
 uint8_t desk_replay(const uint8_t *sheet, size_t sheet_len, const uint8_t *journal, size_t journal_len, uint8_t *answers,
                     size_t answers_len);
@@ -252,7 +253,7 @@ uint8_t unit_fresh(uint8_t *desk, size_t desk_len);
 
 /*
  * Hears a record (32 bytes). If accepted, the desk (520 bytes) is written as it then stands; if refused, it stays as it was. Codes: 0, the
- * sheet's, 61, 10 to 22, in that order. Back come the code and the minutes: those from the agreement to an accepted kind 11, else 0.
+ * sheet's, 61, 10 to 22, in that order. Back come the code and the minutes, as desk_replay writes them: of an accepted kind 11, else 0.
  * Records heard one by one from a fresh desk get the codes and minutes that desk_replay gives for their journal.
  */
 uint64_t unit_apply(const uint8_t *sheet, size_t sheet_len, uint8_t *desk, size_t desk_len, const uint8_t *record,

@@ -15,7 +15,7 @@ static const uint8_t sheet[47] = {'S', 'P', 'T', 0, 1, 2, 1, 1, 0, 255, 0, 0, 25
 
 /*
  * A conversation about work on turnout 1, every message of it accepted. After the first four (STANDING) the turnout is open to work and
- * train 512 lacks its clearance; at the end all is restored, two minutes after the agreement.
+ * train 512 lacks its clearance; at the end all is restored, a minute and a half after the agreement: 2 minutes.
  */
 static const struct {
     uint8_t kind;
@@ -29,7 +29,7 @@ static const struct {
     {DESK_KIND_DETECTION_OFF, 60, 7, 2, 0, 0},
     {DESK_KIND_MOVEMENT_ASKED, 60, 512, 0, 0, 0},
     {DESK_KIND_CANCELLED, 120, 512, 0, 0, 0},
-    {DESK_KIND_ALL_RESTORED, 180, 7, 0, 0, 2},
+    {DESK_KIND_ALL_RESTORED, 150, 7, 0, 0, 2},
 };
 
 static uint8_t record[DESK_RECORD_BYTES];

@@ -9,6 +9,7 @@ pub mod journal;
 #[cfg(feature = "library")]
 pub mod library;
 pub mod message;
+pub mod minutes;
 pub mod panel;
 pub mod refusal;
 pub mod replay;

@@ -3,6 +3,7 @@
 
 use crate::clearance::Clearance;
 use crate::message::{Aspect, Content, Form, Message};
+use crate::minutes;
 use crate::refusal::{refuse, Refusal};
 use crate::set::{holds, only, Set};
 use crate::station::{Route, Station};
@@ -290,8 +291,8 @@ impl<'s> Zone<'s> {
         Ok(())
     }
 
-    /// Kind 11: "15; 18 not agreed; 19"; "no work". 01: "whole minutes since agreement,
-    /// seconds divided by 60 and cut".
+    /// Kind 11: "15; 18 not agreed; 19"; "no work". Minutes since agreement, to the nearest (02, M-103).
+    /// 01: "an agreement later than the restoration gives 0 minutes".
     fn all_restored(&mut self, id: u32, time: u32) -> Result<u32, Refusal> {
         let works = self.work.under(id)?;
         let Work::Agreed { since, .. } = self.work else {
@@ -299,6 +300,6 @@ impl<'s> Zone<'s> {
         };
         refuse(self.movement.names(works.turnouts), Refusal::Conflict)?;
         self.work = Work::None;
-        Ok(time.saturating_sub(since) / 60)
+        Ok(minutes::nearest(time.saturating_sub(since)))
     }
 }

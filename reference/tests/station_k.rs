@@ -9,7 +9,7 @@ use reference::sheet::{self, SheetFault};
 use reference::signals::{verdict, Verdict};
 use reference::station::{Drive, Station, Turnout};
 use reference::zone::Regime;
-use reference::{journal, replay};
+use reference::{journal, minutes, replay};
 
 fn station() -> Station {
     sheet::read(&station_k().bytes()).expect("station K reads")
@@ -61,7 +61,7 @@ fn journal_gives_the_printed_output() {
         buffer[..55].chunks(5).map(|answer| (answer[0], u32::from_be_bytes(answer[1..].try_into().unwrap()))).collect();
     let expected = [0, 0, 0, 0, 22, 0, 22, 0, 19, 0].map(|code| (code, 0));
     assert_eq!(printed[..10], expected);
-    assert_eq!(printed[10], (0, 1));
+    assert_eq!(printed[10], (0, 2));
     assert_eq!(buffer[55..], [0xAA; 5]);
 }
 
@@ -110,14 +110,64 @@ fn clock_of_the_zone() {
     assert_eq!(last_code(&[recorder(0).at(100), recorder(1).at(99)]), 14);
 }
 
+/// The minutes of work on turnout 2 of station K, agreed and restored at these times.
+fn minutes_between(agreement: u32, restoration: u32) -> u32 {
+    let station = station();
+    let mut desk = Desk::fresh(&station);
+    assert_eq!(desk.hear(&work_asked(7, 1, &[2])), Ok(0));
+    assert_eq!(desk.hear(&agreed(7).at(agreement)), Ok(0));
+    desk.hear(&all_restored(7).at(restoration)).expect("agreed work")
+}
+
+/// 02, M-103: "to the nearest whole minute, and an exact half minute goes to the even one".
 #[test]
 fn minutes_of_work() {
-    for (seconds, minutes) in [(0, 0), (59, 0), (60, 1), (119, 1), (120, 2)] {
-        let station = station();
-        let mut desk = Desk::fresh(&station);
-        assert_eq!(desk.hear(&work_asked(7, 1, &[2])), Ok(0));
-        assert_eq!(desk.hear(&agreed(7).at(1000)), Ok(0));
-        assert_eq!(desk.hear(&all_restored(7).at(1000 + seconds)), Ok(minutes));
+    let minutes_of = [
+        (0, 0),
+        (29, 0),
+        (30, 0),
+        (31, 1),
+        (59, 1),
+        (60, 1),
+        (89, 1),
+        (90, 2),
+        (91, 2),
+        (119, 2),
+        (120, 2),
+        (149, 2),
+        (150, 2),
+        (151, 3),
+        (209, 3),
+        (210, 4),
+        (211, 4),
+    ];
+    for (seconds, minutes) in minutes_of {
+        assert_eq!(minutes_between(0, seconds), minutes, "{seconds} seconds");
+        assert_eq!(minutes_between(1000, 1000 + seconds), minutes, "{seconds} seconds");
+        assert_eq!(minutes_between(u32::MAX - seconds, u32::MAX), minutes, "{seconds} seconds");
+    }
+}
+
+/// 4,294,967,295 seconds are 71,582,788 minutes and 15 seconds.
+#[test]
+fn minutes_of_the_longest_work() {
+    assert_eq!(minutes_between(0, u32::MAX), 71_582_788);
+    assert_eq!(minutes_between(15, u32::MAX), 71_582_788);
+    assert_eq!(minutes_between(44, u32::MAX), 71_582_788);
+    assert_eq!(minutes_between(45, u32::MAX), 71_582_788); // an exact half, the minute below it odd
+    assert_eq!(minutes_between(46, u32::MAX), 71_582_787);
+    assert_eq!(minutes_between(104, u32::MAX), 71_582_787);
+    assert_eq!(minutes_between(105, u32::MAX), 71_582_786); // an exact half, the minute below it even
+}
+
+/// The nearest minute is at most half a minute away, and even where it is half a minute.
+#[test]
+fn minutes_by_their_distance() {
+    for seconds in (0..=100_000).chain(u32::MAX - 100_000..=u32::MAX) {
+        let minutes = u64::from(minutes::nearest(seconds));
+        let away = (60 * minutes).abs_diff(u64::from(seconds));
+        assert!(away < 30 || away == 30 && minutes % 2 == 0, "{seconds} seconds as {minutes} minutes");
+        assert_eq!(minutes::exact_half(seconds), away == 30);
     }
 }
 

@@ -1,6 +1,6 @@
 //! The unit: station K record by record over 520 bytes, and bytes that are no desk.
 
-use reference::builders::{agreed, cleared, journal_k, station_k};
+use reference::builders::{agreed, all_restored, cleared, journal_k, station_k};
 use reference::desk::Desk;
 use reference::sheet;
 use reference::station::Station;
@@ -47,7 +47,7 @@ fn station_k_record_by_record() {
     }
     let refused = |code| (code, 0);
     let expected =
-        [(0, 0), (0, 0), (0, 0), (0, 0), refused(22), (0, 0), refused(22), (0, 0), refused(19), (0, 0), (0, 1)];
+        [(0, 0), (0, 0), (0, 0), (0, 0), refused(22), (0, 0), refused(22), (0, 0), refused(19), (0, 0), (0, 2)];
     assert_eq!(answers, expected);
 }
 
@@ -87,6 +87,20 @@ fn both_ends() {
     expected[8 + 48] = 1;
     assert_eq!(bytes, expected);
     assert_eq!(unit::movement_at(&station(), &bytes, 0, 512), [0, 1, 255, 0]);
+}
+
+/// Station K's last record, at 209, on bytes with another time of the agreement. 02, M-103: "to the nearest whole
+/// minute"; 01: "an agreement later than the restoration gives 0 minutes".
+#[test]
+fn minutes_since_any_agreement() {
+    let earlier = [(0, 3), (58, 3), (59, 2), (90, 2), (119, 2), (120, 1), (178, 1), (179, 0), (180, 0), (209, 0)];
+    let later = [210, 238, 239, 240, 269, 299, u32::MAX].map(|agreement| (agreement, 0));
+    for (agreement, minutes) in earlier.into_iter().chain(later) {
+        let mut bytes = after(10);
+        bytes[8 + 14..8 + 18].copy_from_slice(&u32::to_be_bytes(agreement));
+        let restored = all_restored(7).at(209).to_bytes();
+        assert_eq!(unit::apply(&station_k().bytes(), &mut bytes, &restored), (0, minutes), "agreed at {agreement}");
+    }
 }
 
 #[test]

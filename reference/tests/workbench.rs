@@ -505,11 +505,39 @@ fn explanation_of_station_k() {
         ["with signals at danger", "Answer 0, 0 minutes: accepted", "route 0, ordered. Cleared: {0}."],
         ["all turnouts of form 7", "Answer 19, 0 minutes: refused: a standing movement names", "which names {0}."],
         ["train 512 passed", "Answer 0, 0 minutes: accepted", "Open to work: {1}, not {0}."],
-        ["all turnouts of form 7", "Answer 0, 1 minute: accepted", "Work in zone 0: none."],
+        ["all turnouts of form 7", "Answer 0, 2 minutes: accepted", "Work in zone 0: none."],
     ];
     assert_eq!(parts.len(), expected.len());
     for (part, expected) in parts.iter().zip(expected) {
         assert!(expected.iter().all(|words| part.contains(words)), "{part}");
+    }
+}
+
+/// 02, M-103: where the minutes come from, and which way an exact half goes. Works one after another, the last as long
+/// as station K's.
+#[test]
+fn explanation_of_minutes() {
+    let folder = Folder::new("explain_minutes");
+    let (half, nearest) = ("an exact half minute, to the even whole minute", "to the nearest whole minute");
+    let expected = [
+        (1000, 29, "0 minutes", nearest),
+        (2000, 30, "0 minutes", half),
+        (3000, 31, "1 minute", nearest),
+        (4000, 60, "1 minute", nearest),
+        (5000, 90, "2 minutes", half),
+        (6000, 119, "2 minutes", nearest),
+    ];
+    let works = expected.map(|(time, seconds, ..)| {
+        [work_asked(7, 1, &[2]).at(time), agreed(7).at(time), all_restored(7).at(time + seconds)]
+    });
+    let (sheet, journal) =
+        (folder.file("sheet", station_k().bytes()), folder.file("journal", journal(&works.concat())));
+    let told = text(&["explain", &sheet, &journal]);
+    let parts: Vec<&str> = told.split("\nRecord ").skip(1).collect();
+    assert_eq!(parts.len(), 18);
+    for (part, (time, seconds, minutes, rounded)) in parts.iter().skip(2).step_by(3).zip(expected) {
+        assert!(part.contains(&format!("Answer 0, {minutes}: accepted")), "{part}");
+        assert!(part.contains(&format!(" Agreed at {time}: {seconds} seconds, {rounded}.\n")), "{part}");
     }
 }
 

@@ -88,12 +88,17 @@ impl Cases {
 
     /// Op 2 for a list of accepted messages: the minutes stated for each kind 11.
     pub fn minutes(&mut self, minutes: &[u32], sheet: &[u8], messages: &[Message]) {
+        self.state_minutes(minutes, sheet, messages);
+        self.list(0, sheet, messages);
+    }
+
+    /// The minutes stated for each accepted kind 11 of the list that comes next.
+    pub fn state_minutes(&self, minutes: &[u32], sheet: &[u8], messages: &[Message]) {
         let station = sheet::read(sheet).expect("a good sheet");
         let (answers, _) = replay::hear_all(&station, &builders::journal(messages)).expect("a good journal");
         let restored = messages.iter().zip(&answers).filter(|(message, _)| message.kind == 11);
         let returned: Vec<u32> = restored.filter_map(|(_, answer)| answer.ok()).collect();
         assert_eq!(returned, minutes, "case {}", self.count + 1);
-        self.list(0, sheet, messages);
     }
 
     /// Op 2 for messages refused one after another by the same code, on the desk that an accepted list left.

@@ -309,7 +309,7 @@ fn kind_11(c: &mut Cases, y: &[u8]) {
     for (start, seconds) in [(0, 0), (100, 59), (200, 60), (300, 119), (500, 120), (1000, 3_600_000)] {
         list.extend([asked(&[2]).at(start), agreed(FORM).at(start + 9), all_restored(FORM).at(start + 9 + seconds)]);
     }
-    c.minutes(&[0, 0, 1, 1, 2, 60_000], y, &list); // cut, not rounded
+    c.minutes(&[0, 1, 1, 2, 2, 60_000], y, &list); // to the nearest
     c.minutes(&[71_582_788], y, &[asked(&[2]), agreed(FORM), all_restored(FORM).at(u32::MAX)]); // the most
     c.list(15, y, &then(work(M45, &[2]), &[all_restored(8)])); // another id
     c.list(18, y, &[asked(&[2]), all_restored(FORM)]); // not agreed

@@ -46,6 +46,7 @@ pub fn add(cases: &mut Cases) {
     // Station K: the journal, and both questions after each prefix.
     let k = station_k().bytes();
     let records = journal_k();
+    c.state_minutes(&[2], &k, &records); // 02, M-103: "the last line becomes '11 0 2'"
     c.codes(&[0, 0, 0, 0, 22, 0, 22, 0, 19, 0, 0], &k, &records); // the whole journal
     for n in 0..=records.len() {
         let prefix = journal(&records[..n]);
@@ -114,6 +115,7 @@ pub fn add(cases: &mut Cases) {
     damaged[last] = 0;
     c.sheet(6, 63, &damaged); // the last route bad
     let talk = several_zones();
+    c.state_minutes(&[2, 2], &large, &talk); // 121 and 119 seconds
     c.replay(0, &large, &journal(&talk)); // the whole conversation
     let middle = journal(&talk[..16]);
     c.movement([0, HELD, 4, 1], &large, &middle, 0, 900); // held by turnout 4

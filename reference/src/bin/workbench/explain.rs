@@ -4,6 +4,7 @@ use crate::{reasons, refused, state, words};
 use reference::desk::Desk;
 use reference::journal;
 use reference::message::{self, Content, Message};
+use reference::minutes;
 use reference::refusal::{number, Refusal};
 use reference::replay::Answer;
 use reference::station::Station;
@@ -78,7 +79,7 @@ fn detail(message: &Message, content: &Content, zone: &Zone) -> Option<String> {
     match (content, zone.work) {
         (Content::AllRestored, Work::Agreed { since, .. }) => {
             let seconds = message.time.saturating_sub(since);
-            Some(format!("Agreed at {since}: {seconds} seconds, cut to whole minutes."))
+            Some(format!("Agreed at {since}: {seconds} seconds, {}.", rounding(seconds)))
         }
         (Content::Ordered(_), _) => state::regime(zone).ok().map(|regime| format!("The regime: {regime}.")),
         (Content::Passed | Content::Cancelled, work) => {
@@ -86,5 +87,14 @@ fn detail(message: &Message, content: &Content, zone: &Zone) -> Option<String> {
             (shut != 0).then(|| format!("{} stays shut to work until a new detection off.", words::set(shut)))
         }
         _ => None,
+    }
+}
+
+/// 02, M-103: "to the nearest whole minute, and an exact half minute goes to the even one".
+fn rounding(seconds: u32) -> &'static str {
+    if minutes::exact_half(seconds) {
+        "an exact half minute, to the even whole minute"
+    } else {
+        "to the nearest whole minute"
     }
 }

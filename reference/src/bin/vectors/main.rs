@@ -7,6 +7,7 @@ mod copies;
 mod journals;
 mod kinds;
 mod lists;
+mod minutes;
 mod panels;
 mod records;
 mod scenes;
@@ -35,6 +36,7 @@ fn main() {
     copies::add(&mut cases);
     both_ends::add(&mut cases);
     panels::add(&mut cases);
+    minutes::add(&mut cases);
     println!("{} cases, {} bytes; stdout {} bytes", cases.count, cases.bytes.len(), cases.stdout.len());
     assert!(cases.bytes.len() <= CASES_LIMIT && cases.stdout.len() <= STDOUT_LIMIT);
     let write = |name: &str, bytes: &[u8]| fs::write(Path::new(&folder).join(name), bytes);

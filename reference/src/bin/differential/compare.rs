@@ -1,6 +1,6 @@
 //! The comparisons: each call made of the library and of this implementation, on the same bytes.
 //! Those of journals stand in `journals`, those of units in `units`, those of the writer in `writers`, those of the
-//! cabin panel in `panels`.
+//! cabin panel in `panels`, those of minutes in `minutes`.
 
 use crate::lists::Talk;
 use crate::rng::Rng;

@@ -2,6 +2,7 @@
 //! mixed with untimely, slightly wrong and meaningless ones.
 
 use crate::rng::Rng;
+use crate::times;
 use reference::builders;
 use reference::clearance::Position;
 use reference::desk::Desk;
@@ -35,10 +36,13 @@ impl Talk {
         let state = desk.zone(zone).expect("a zone of the station");
         let station = desk.station();
         let place = Place { talk: self, station, zone, state };
-        let sensible = |rng: &mut Rng| place.sensible(rng).in_zone(zone).at(time_after(rng, state.last));
+        let sensible = |rng: &mut Rng| {
+            let message = place.sensible(rng);
+            message.in_zone(zone).at(place.time(rng, message.kind))
+        };
         match rng.within(0..=99) {
             0..=61 => sensible(rng).to_bytes(),
-            62..=79 => place.untimely(rng).in_zone(zone).at(time_after(rng, state.last)).to_bytes(),
+            62..=79 => place.untimely(rng).in_zone(zone).at(times::after(rng, state.last)).to_bytes(),
             80..=94 => {
                 let message = sensible(rng);
                 near_miss(rng, message, state.last).to_bytes()
@@ -58,17 +62,6 @@ impl Talk {
     }
 }
 
-fn time_after(rng: &mut Rng, last: u32) -> u32 {
-    let seconds = match rng.within(0..=99) {
-        0..=29 => 0,
-        30..=69 => rng.within(1..=59),
-        70..=94 => rng.within(60..=600),
-        95..=98 => rng.within(601..=200_000),
-        _ => rng.within(0..=1 << 30),
-    };
-    last.saturating_add(seconds)
-}
-
 /// A zone of the desk, as the generator sees it.
 struct Place<'p, 's> {
     talk: &'p Talk,
@@ -84,6 +77,14 @@ impl Place<'_, '_> {
             0..=3 => builders::recorder(u8::from(!self.state.recorder_working)),
             4..=43 => self.about_work(rng),
             _ => self.about_movement(rng),
+        }
+    }
+
+    /// When it is heard; all restored often at half a minute, or beside it.
+    fn time(&self, rng: &mut Rng, kind: u8) -> u32 {
+        match self.state.work {
+            Work::Agreed { since, .. } if kind == 11 && rng.chance(40) => times::near_half(rng, since, self.state.last),
+            _ => times::after(rng, self.state.last),
         }
     }
 

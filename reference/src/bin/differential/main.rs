@@ -6,12 +6,14 @@ mod demand;
 mod ends;
 mod journals;
 mod lists;
+mod minutes;
 mod panel_sheets;
 mod panels;
 mod raw_stations;
 mod rng;
 mod stations;
 mod tally;
+mod times;
 mod units;
 mod writers;
 

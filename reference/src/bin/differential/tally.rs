@@ -1,6 +1,7 @@
 //! Counts of what occurred, so that a run that never met a code, kind, regime or verdict is no test.
 
 use crate::ends::Ends;
+use crate::minutes::Minutes;
 use crate::panels::Panels;
 
 const CODES: [u8; 29] =
@@ -30,6 +31,7 @@ pub struct Tally {
     verdicts: [u64; 7],
     pub ends: Ends,
     panels: Panels,
+    pub minutes: Minutes,
 }
 
 impl Tally {
@@ -48,6 +50,7 @@ impl Tally {
             verdicts: [0; 7],
             ends: Ends::default(),
             panels: Panels::default(),
+            minutes: Minutes::default(),
         }
     }
 
@@ -134,6 +137,7 @@ impl Tally {
         counts.extend((1..=6).map(|verdict| (format!("verdict {verdict}"), self.verdicts[verdict])));
         counts.extend(self.ends.counts());
         counts.extend(self.panels.counts());
+        counts.extend(self.minutes.counts());
         for (name, count) in &counts {
             println!("{name}: {count}");
         }

@@ -71,7 +71,9 @@ impl Comparison {
         let call = || format!("unit_apply(sheet, desk, record): desk {before:?}, record {record:?}");
         files.same(call, answer, u64::from(code) + (u64::from(minutes) << 8))?;
         files.same(call, &unit.by_library, &unit.by_reference)?;
-        if code != 0 {
+        if code == 0 {
+            self.minutes(files, station, &before, record, answer >> 8)?;
+        } else {
             files.same(call, (&unit.by_library, minutes), (&before, 0))?;
         }
         Ok((code, (code == 0).then_some(minutes)))
@@ -130,7 +132,7 @@ impl Comparison {
     fn damaged_desk(&mut self, desk: &[u8]) -> Vec<u8> {
         let mut bytes = desk.to_vec();
         let (zone, busy) = (zone_at(self.rng.index(ZONES)), self.busy_zone(desk));
-        match self.rng.within(0..=11) {
+        match self.rng.within(0..=13) {
             0 => bytes[self.rng.index(DESK)] = self.rng.byte(),
             1 => {
                 for _ in 0..self.rng.within(2..=5) {
@@ -154,10 +156,18 @@ impl Comparison {
                     bytes[busy + field] ^= 1 << self.rng.index(8);
                 }
             }
+            10 | 11 => self.agree_later(&mut bytes[busy..busy + 64]),
             // A zone put in place of another.
             _ => bytes.copy_within(busy..busy + 64, zone),
         }
         bytes
+    }
+
+    /// The agreement put after the zone's last time; where no work is agreed, it is no desk.
+    fn agree_later(&mut self, zone: &mut [u8]) {
+        let last = zone[50..54].iter().fold(0, |time, &byte| time << 8 | u32::from(byte));
+        let agreement = last.saturating_add(self.rng.pick(&[1, 29, 30, 31, 60, 90, 1000, u32::MAX]));
+        zone[14..18].copy_from_slice(&agreement.to_be_bytes());
     }
 
     /// Where a zone starts that has work or a movement, if one has.

@@ -3,6 +3,7 @@
 
 pub mod builders;
 pub mod clearance;
+pub mod crossover;
 pub mod desk;
 pub mod history;
 pub mod journal;

@@ -1,6 +1,7 @@
 //! The station that an accepted sheet gives: turnouts, routes, zones.
 
 use crate::clearance::Position;
+use crate::crossover;
 use crate::set::{holds, members, only, Set};
 
 #[derive(Clone, Copy, Debug, PartialEq, Eq)]
@@ -67,11 +68,13 @@ impl Station {
         partner.is_some_and(|partner| self.turnout(partner).is_some())
     }
 
-    /// Does the set hold one end of a crossover without the other?
+    /// The turnouts of a set that have a partner, each with it.
+    pub fn pairs(&self, set: Set) -> impl Iterator<Item = (u8, u8)> + '_ {
+        members(set).filter_map(|n| Some((n, self.turnout(n)?.partner?)))
+    }
+
+    /// The partners in a sheet name each other back, so that the turnouts of the set are enough to look at.
     pub fn splits_crossover(&self, set: Set) -> bool {
-        members(set).any(|n| match self.turnout(n).and_then(|turnout| turnout.partner) {
-            Some(partner) => !holds(set, partner),
-            None => false,
-        })
+        crossover::splits(self.pairs(set), set)
     }
 }

@@ -1,7 +1,9 @@
 //! Writing of the station sheet. 02, M-100: "It turns a station into sheet bytes in a lent buffer, so that reading
 //! them yields that station, and a sheet that was read and written comes out byte for byte."
 
+use crate::crossover;
 use crate::refusal::{number, Refusal};
+use crate::set::Set;
 use crate::sheet::{self, HEADER, NO_PARTNER, ROUTE, TURNOUT};
 use crate::station::{Drive, Route, Station, Turnout};
 
@@ -44,6 +46,19 @@ impl RawStation {
     /// 01: "The length is exactly 8 + 3P + 33R."
     pub fn sheet_length(&self) -> usize {
         HEADER + TURNOUT * usize::from(self.turnouts) + ROUTE * usize::from(self.routes)
+    }
+
+    /// The turnouts below P that have a partner, each with it. 01: "a count over its limit is read as the limit, a
+    /// partner not below P as none".
+    pub fn pairs(&self) -> impl Iterator<Item = (u8, u8)> + '_ {
+        let turnouts = self.turnouts.min(RECORDS as u8);
+        let named = (0..turnouts).zip(&self.turnout_records).map(|(n, record)| (n, record.partner));
+        named.filter(move |&(_, partner)| partner < turnouts)
+    }
+
+    /// Every turnout below P is looked at, since a partner need not name it back.
+    pub fn splits_crossover(&self, set: Set) -> bool {
+        crossover::splits(self.pairs(), set)
     }
 }
 

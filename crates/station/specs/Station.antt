@@ -96,6 +96,7 @@ routeBy count n r = cond (ltb n (min count 64)) r emptyRoute
 abbrev pub whole : ℕ → ℕ → Bool
 whole group s = within group s || not (overlaps group s)
 
--- "splitting a crossover": one end is in the set and the other is not
+-- "splitting a crossover": one end is in the set and the other is not; every turnout below P is
+-- looked at, also one that its partner does not name back
 unfoldable pub splits : Station → ℕ → Bool
 splits st s = not (allFrom (λ n. whole (tied st n) s) 0 (turnoutCount st))

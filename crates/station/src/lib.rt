@@ -189,16 +189,16 @@ pub fn names(r: Route) -> u64
     sets::join(sets::join(r.over, r.flank), r.exits)
 }
 
-// Whether a set has one end of a crossover and not the other.
+// Whether a set has one end of a crossover and not the other. The loop counts in eight bits (document 02, M-104).
 pub fn splits_crossover(st: Station, s: u64) -> bool
     ensures { λ r. ⌜ r ≡ splits st s ⌝ }
 {
-    let n = turnout_count(st);
+    let limit = turnout_count(st) as u8;
     let ts = st.turnout;
-    let mut i: usize = 0;
-    while i < n {
-        let t = ts[i];
-        if !observe::is_whole(observe::tied_with(n, i, t.partner), s) {
+    let mut i: u8 = 0;
+    while i < limit {
+        let t = ts[i as usize];
+        if !observe::is_whole(observe::tied_with(limit as usize, i as usize, t.partner), s) {
             return true;
         }
         i += 1;

@@ -1,8 +1,9 @@
--- The invariant says that what is still to be asked of the turnouts is the answer.
+-- The invariant says that what is still to be asked of the turnouts is the answer. The count is at
+-- most 64 for every station, so it and the counter fit in eight bits.
 use mathlib.Core.Path.{_≡_, sym, ap, _∙_}
 use mathlib.Core.List.{List}
 use mathlib.Core.Bool.{Bool, true, false, not}
-use Prim.Native.Nat.{ℕ, _-_, _≤_}
+use Prim.Native.Nat.{ℕ, _-_, _≤_, _<_}
 use native.Mathlib.Nat.{sub-zero}
 use native.Mathlib.Omega.{arith}
 use borrow.Author.Tests.{not-true, not-false}
@@ -42,9 +43,21 @@ tested :
     (c .before .before .before .before .loop .i)
 tested c = rw (c .is-whole .ensures, c .before .tied-with .ensures)
 
+-- "a count over its limit is read as the limit", also one of 65 to 255
+at-most-64 : (c : tie.After-turnout-count Inv-loop μ-loop) → c .turnout-count .result ≤ 64
+at-most-64 c = omega arith
+
+-- the limit in eight bits
+cast-limit : tie.Need-cast-limit Inv-loop μ-loop
+cast-limit c =
+    let few = at-most-64 c in
+    omega (arith, few)
+
 loop-holds : tie.Need-loop-holds Inv-loop μ-loop
 loop-holds c =
-    (search needs, rw sub-zero)
+    let n = c .before .turnout-count .result in
+    let a = c .before .before .args in
+    (omega arith, ap (allFrom (test n (a .st .turnout) (a .s)) 0) (sym (sub-zero n)))
 
 returns : tie.Need-returns Inv-loop μ-loop
 returns c =
@@ -55,9 +68,15 @@ returns c =
     let inv = c .before .before .before .before .before .loop .inv in
     let fails : test n (a .st .turnout) (a .s) i ≡ false =
     sym (tested (c .before)) ∙ not-true (c .before .is-whole .result) (c .if1 .taken) in
-    let more = c .before .before .before .before .loop-test .taken in
+    let more : i < n = omega arith in
     let all = inv .1 ∙ all-next (test n (a .st .turnout) (a .s)) i n more in
     sym (asked (a .st) (a .s) n (count .ensures) ∙ rw (all, fails))
+
+-- the next number is at most the limit, so at most 64
+add-i : tie.Need-add-i Inv-loop μ-loop
+add-i c =
+    let few = at-most-64 (c .before .before .before .before .before .before .before) in
+    omega (arith, few)
 
 loop-again : tie.Need-loop-again Inv-loop μ-loop
 loop-again c =
@@ -67,7 +86,7 @@ loop-again c =
     let inv = c .before .before .before .before .before .loop .inv in
     let passes : test n (a .st .turnout) (a .s) i ≡ true =
     sym (tested (c .before)) ∙ not-false (c .before .is-whole .result) (c .if1 .left) in
-    let more = c .before .before .before .before .loop-test .taken in
+    let more : i < n = omega arith in
     (search needs, inv .1 ∙ all-next (test n (a .st .turnout) (a .s)) i n more ∙ rw passes)
 
 returns-2 : tie.Need-returns-2 Inv-loop μ-loop
@@ -90,13 +109,17 @@ splits-crossover-spec =
     Inv-loop
     μ-loop
     (λ c κs. search needs)
+    cast-limit
     loop-holds
+    (λ c. search needs)
+    (λ c. search needs)
+    (λ c. search needs)
     (λ c. search needs)
     (λ c. search needs)
     (λ c κs. search needs)
     (λ c κs. search needs)
     returns
-    (λ c. search needs)
+    add-i
     (λ c. search needs)
     loop-again
     returns-2)

@@ -1,7 +1,8 @@
 // Tries the reader of station sheets (document 01, 'Station sheet') on worked sheets, their writer (document 02,
-// M-100) on worked stations, and the cabin panel's reader (document 02, M-102) beside the desk's. They are proved to
-// follow the rules in the specs/ of their crates, sheet, sheet_writer and panel; what this program writes shows that
-// these rules accept and refuse what the documents do.
+// M-100) on worked stations, the cabin panel's reader (document 02, M-102) beside the desk's, and what stations say
+// (document 01, 'Conditions of acceptance'; document 02, M-101 and M-104). They are proved to follow the rules in the
+// specs/ of their crates, sheet, sheet_writer, panel and station; what this program writes shows that these rules
+// accept, refuse and answer as the documents do.
 // The cases are in stdin and the expected lines in stdout, written from the documents; no expected number stands
 // here.
 //
@@ -13,6 +14,9 @@
 // Number 6 is a plain sheet that both readers read (panels.rt). Then come its counts of turnouts and routes, modulo
 // 256, how many bytes of it are read, and its damage. The output is the name; then of the panel's reading the code,
 // the index and the sum of all numbers of its station; then the same three of the desk's.
+// Number 7 asks whether a set splits a crossover (crossovers.rt). Then come the station's count of turnouts, modulo
+// 256, and pairs: a turnout and the partner that it names, or 100 more than a turnout of the set and a 1. Every other
+// of the 64 turnouts names none (255). The output is the name and 1 for yes, 0 for no.
 // Number 10 to 19 is a question about a station: 10, 11, 12 the count of turnouts, routes, zones; 13 and 14 the zone
 // and the drive of a turnout; 15 what is tied to it; 16 the turnouts of a zone; 17 what a route names; 18 whether a
 // set splits a crossover; 19 whether a turnout has a partner (document 02, M-101), 1 for yes. Then come a count, a
@@ -27,6 +31,7 @@
 // output is the name and three numbers: the code; how many bytes at the start of the buffer are then those of the
 // sheet before the changes (of no sheet for 20), up to the first that differs; and how many bytes of the rest of the
 // buffer are still 170.
+mod crossovers;
 mod panels;
 mod sheets;
 mod stations;
@@ -98,6 +103,9 @@ fn rest_tried(input: &[u8], at: usize) -> usize {
     let first = number_at(input, at);
     if first.value == 6 {
         return panels::tried(input, first.next);
+    }
+    if first.value == 7 {
+        return crossovers::tried(input, first.next);
     }
     if first.value < 10 {
         return sheet_tried(input, first.value, first.next);

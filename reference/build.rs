@@ -2,7 +2,7 @@
 
 use std::env;
 
-/// The last is not shipped: it lends the writer any station, for the comparison.
+/// The last is not shipped: it takes any station, for the comparison.
 const ARCHIVES: [&str; 5] =
     ["works_desk_journal", "works_desk_unit", "works_desk_signals", "works_desk_panel", "station_trial"];
 

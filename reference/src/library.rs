@@ -1,7 +1,8 @@
-//! The C interface of the proved library, and safe calls over it. `trial_write_sheet` is of no shipped archive: it is
-//! there for the comparison, since no other call takes a station that no sheet gave.
+//! The C interface of the proved library, and safe calls over it. `trial_write_sheet` and `trial_splits` are of no
+//! shipped archive: they are there for the comparison, since no other call takes a station that no sheet gave.
 
 use crate::message::Message;
+use crate::set::Set;
 use crate::trial::VALUES;
 
 mod c {
@@ -10,6 +11,7 @@ mod c {
         pub fn panel_sheet(sheet: *const u8, len: usize) -> u32;
         pub fn desk_copy_sheet(sheet: *const u8, sheet_len: usize, buffer: *mut u8, len: usize) -> u32;
         pub fn trial_write_sheet(values: *const u8, values_len: usize, buffer: *mut u8, len: usize) -> u8;
+        pub fn trial_splits(values: *const u8, values_len: usize, set: u64) -> u8;
         pub fn desk_record(record: *const u8, len: usize) -> u8;
         pub fn desk_write_record(
             kind: u8,
@@ -97,6 +99,11 @@ pub fn copy_sheet(sheet: &[u8], buffer: &mut [u8]) -> u32 {
 /// The writer, on a station by its values (`trial`): 0, 7 or 8.
 pub fn write_sheet(values: &[u8; VALUES], buffer: &mut [u8]) -> u8 {
     unsafe { c::trial_write_sheet(values.as_ptr(), values.len(), buffer.as_mut_ptr(), buffer.len()) }
+}
+
+/// 1 where the set splits a crossover of a station by its values (`trial`), else 0.
+pub fn splits(values: &[u8; VALUES], set: Set) -> u8 {
+    unsafe { c::trial_splits(values.as_ptr(), values.len(), set) }
 }
 
 pub fn record(record: &[u8]) -> u8 {

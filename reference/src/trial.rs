@@ -1,5 +1,6 @@
-//! A station as the comparison hands it to the library's writer: 2,315 bytes. The first 2,312 are laid out as a sheet
-//! of 64 turnouts and 64 routes is; then come the station's own counts P, R and Z, any bytes.
+//! A station as the comparison hands it to the library's writer and to its test for split crossovers: 2,315 bytes.
+//! The first 2,312 are laid out as a sheet of 64 turnouts and 64 routes is; then come the station's own counts P, R and
+//! Z, any bytes.
 
 use crate::sheet::{self, HEADER, ROUTE, TURNOUT};
 use crate::writer::{self, RawStation, RawTurnout, RECORDS};

@@ -1,6 +1,6 @@
 //! The comparisons: each call made of the library and of this implementation, on the same bytes.
 //! Those of journals stand in `journals`, those of units in `units`, those of the writer in `writers`, those of the
-//! cabin panel in `panels`, those of minutes in `minutes`.
+//! cabin panel in `panels`, those of minutes in `minutes`, those of split crossovers in `crossovers`.
 
 use crate::lists::Talk;
 use crate::rng::Rng;
@@ -95,7 +95,7 @@ impl Comparison {
         let length = if self.rng.chance(5) { self.rng.within(0..=19) } else { self.rng.within(20..=120) };
         for _ in 0..length {
             let record = talk.next(&mut self.rng, &desk);
-            self.tally.ends.heard(&desk, &record);
+            self.tally.hearing(&desk, &record);
             let answer = desk.hear_record(&record);
             self.tally.heard(record[0], number(&answer));
             heard.push((record, answer));

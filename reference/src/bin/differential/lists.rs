@@ -2,7 +2,7 @@
 //! mixed with untimely, slightly wrong and meaningless ones.
 
 use crate::rng::Rng;
-use crate::times;
+use crate::{crossover_lists, times};
 use reference::builders;
 use reference::clearance::Position;
 use reference::desk::Desk;
@@ -75,7 +75,7 @@ impl Place<'_, '_> {
     fn sensible(&self, rng: &mut Rng) -> Message {
         match rng.within(0..=99) {
             0..=3 => builders::recorder(u8::from(!self.state.recorder_working)),
-            4..=43 => self.about_work(rng),
+            4..=43 => crossover_lists::perhaps_split(self.about_work(rng), rng, self.station),
             _ => self.about_movement(rng),
         }
     }

@@ -2,6 +2,9 @@
 //! Stops at the first difference (exit 1), and leaves `sheet` and `journal` in the folder `difference`.
 
 mod compare;
+mod crossover_lists;
+mod crossover_stations;
+mod crossovers;
 mod demand;
 mod ends;
 mod journals;
@@ -56,6 +59,7 @@ fn run(comparison: &mut Comparison, count: u64) -> Result<(), Difference> {
     comparison.all_panel_counts()?;
     while comparison.tally.inputs < count {
         comparison.round()?;
+        comparison.crossovers()?;
     }
     Ok(())
 }

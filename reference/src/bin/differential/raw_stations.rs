@@ -1,4 +1,5 @@
-//! Random stations as they stand, for the writer: good ones, ones with a few numbers changed, and any numbers.
+//! Random stations as they stand, for the writer and for sets that may split a crossover: good ones, ones with a few
+//! numbers changed, and any numbers.
 
 use crate::rng::Rng;
 use crate::stations;

@@ -1,8 +1,14 @@
 //! Counts of what occurred, so that a run that never met a code, kind, regime or verdict is no test.
 
+use crate::crossover_lists::LastTurnout;
+use crate::crossovers::Splits;
 use crate::ends::Ends;
 use crate::minutes::Minutes;
 use crate::panels::Panels;
+use reference::desk::Desk;
+use reference::message::RECORD;
+use reference::set::Set;
+use reference::writer::RawStation;
 
 const CODES: [u8; 29] =
     [0, 1, 2, 3, 4, 5, 6, 7, 8, 9, 10, 11, 12, 13, 14, 15, 16, 17, 18, 19, 20, 21, 22, 30, 31, 32, 33, 60, 61];
@@ -32,6 +38,8 @@ pub struct Tally {
     pub ends: Ends,
     panels: Panels,
     pub minutes: Minutes,
+    splits: Splits,
+    last_turnout: LastTurnout,
 }
 
 impl Tally {
@@ -51,11 +59,19 @@ impl Tally {
             ends: Ends::default(),
             panels: Panels::default(),
             minutes: Minutes::default(),
+            splits: Splits::default(),
+            last_turnout: LastTurnout::default(),
         }
     }
 
     pub fn code(&mut self, code: u8) {
         self.codes[usize::from(code)] += 1;
+    }
+
+    /// A record of a list, and the desk that is to hear it.
+    pub fn hearing(&mut self, desk: &Desk, record: &[u8; RECORD]) {
+        self.ends.heard(desk, record);
+        self.last_turnout.heard(desk, record);
     }
 
     pub fn heard(&mut self, kind: u8, code: u8) {
@@ -93,6 +109,12 @@ impl Tally {
         self.panels.read(sheet, panel, desk);
     }
 
+    /// A set tried on a station as it stands, for a split crossover.
+    pub fn splits(&mut self, station: &RawStation, set: Set) {
+        self.inputs += 1;
+        self.splits.tried(station, set);
+    }
+
     pub fn movement(&mut self, [code, regime, ..]: [u8; 4]) {
         self.questions += 1;
         self.code(code);
@@ -115,14 +137,15 @@ impl Tally {
     /// Prints the counts; returns what never occurred.
     pub fn report(&self) -> Vec<String> {
         println!(
-            "inputs {}: heard {}, lists {}, stations written {}, sheets copied {}, read by the panel {}; \
-             beside them questions {}, records heard by a unit {}",
+            "inputs {}: heard {}, lists {}, stations written {}, sheets copied {}, read by the panel {}, \
+             sets tried for a split {}; beside them questions {}, records heard by a unit {}",
             self.inputs,
             self.heard,
             self.lists,
             self.written.iter().sum::<u64>(),
             self.copied.iter().sum::<u64>(),
             self.panels.sheets(),
+            self.splits.sets(),
             self.questions,
             self.units
         );
@@ -138,6 +161,8 @@ impl Tally {
         counts.extend(self.ends.counts());
         counts.extend(self.panels.counts());
         counts.extend(self.minutes.counts());
+        counts.extend(self.splits.counts());
+        counts.extend(self.last_turnout.counts());
         for (name, count) in &counts {
             println!("{name}: {count}");
         }

@@ -7,11 +7,14 @@ use reference::writer::{self, RawStation};
 use reference::{library, sheet, trial};
 
 /// Good stations in each round; with each of them so many stations are written that are good, damaged and odd. That is
-/// about one input in eight.
+/// about one input in nine.
 const STATIONS: usize = 3;
 const GOOD: usize = 3;
 const DAMAGED: usize = 6;
 const ODD: usize = 2;
+
+/// Percent of these stations on which a set is tried that may split a crossover.
+const SPLITS: u32 = 25;
 
 impl Comparison {
     /// Stations of all sorts written.
@@ -47,6 +50,9 @@ impl Comparison {
         let values = trial::values(station);
         let before = self.buffer(station.sheet_length());
         let (mut by_library, mut by_reference) = (before.clone(), before.clone());
+        if self.rng.chance(SPLITS) {
+            self.some_split(station)?;
+        }
         let code = number(&writer::write(station, &mut by_reference));
         let library = library::write_sheet(&values, &mut by_library);
         self.tally.written(code);

@@ -59,6 +59,14 @@ pub fn long_talk() -> Vec<u8> {
     builders::journal(&all)
 }
 
+/// Requests for work on the largest station, each refused by 17: its set has turnout 62 without 63. They are all of one
+/// kind, so that the test for split crossovers weighs most; that crossover is the last, so that a test that goes by the
+/// station's turnouts looks at 63 of the 64. A refused one leaves its zone free; an accepted one would need another
+/// message to end its work.
+pub fn split_requests() -> Vec<u8> {
+    builders::journal(&[builders::work_asked(7, 1, &[62]).in_zone(7); RECORDS])
+}
+
 /// The records of a journal that are accepted.
 pub fn accepted(sheet: &[u8], journal: &[u8]) -> Vec<[u8; RECORD]> {
     let station = sheet::read(sheet).expect("a good sheet");

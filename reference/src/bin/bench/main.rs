@@ -184,11 +184,13 @@ fn verdicts<'a>() -> Pair<'a> {
 fn main() {
     let (k, talk_k) = (inputs::station_k(), inputs::talk_k());
     let (large, talk) = (inputs::largest_station(), inputs::long_talk());
+    let split_requests = inputs::split_requests();
     let panel_sheet = builders::largest_panel_station().bytes();
     let (records_k, records) = (inputs::accepted(&k, &talk_k), inputs::accepted(&large, &talk));
     let pairs = [
         replayed("replay, station K, a message", &k, &talk_k, inputs::RECORDS),
         replayed("replay, largest station, a message", &large, &talk, inputs::RECORDS),
+        replayed("replay, largest station, a kind 1", &large, &split_requests, inputs::RECORDS),
         read("largest sheet", &large, library::sheet, sheet::read),
         read("largest panel sheet", &panel_sheet, library::panel_sheet, panel::read),
         written("largest sheet written", &large),

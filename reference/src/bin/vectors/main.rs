@@ -4,6 +4,7 @@
 mod both_ends;
 mod cases;
 mod copies;
+mod crossovers;
 mod journals;
 mod kinds;
 mod lists;
@@ -37,6 +38,7 @@ fn main() {
     both_ends::add(&mut cases);
     panels::add(&mut cases);
     minutes::add(&mut cases);
+    crossovers::add(&mut cases);
     println!("{} cases, {} bytes; stdout {} bytes", cases.count, cases.bytes.len(), cases.stdout.len());
     assert!(cases.bytes.len() <= CASES_LIMIT && cases.stdout.len() <= STDOUT_LIMIT);
     let write = |name: &str, bytes: &[u8]| fs::write(Path::new(&folder).join(name), bytes);

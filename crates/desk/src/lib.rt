@@ -183,10 +183,10 @@ fn movement_in(st: Station, z: Zone, train: u32) -> MovementAnswer
         return movement_refused(kinds::NOT_UNDER_THIS_ID);
     }
     let r = zone::movements::route_for(st, v);
-    let lacking = zone::movements::lacking_clearance(r, w, v);
+    let lacking = zone::regimes::lacking_clearance(r, w, v);
     MovementAnswer {
         code: 0,
-        regime: zone::movements::regime(r, w, v),
+        regime: zone::regimes::regime(r, w, v),
         lowest: lowest_of(lacking),
         count: sets::how_many(lacking),
     }

@@ -5,6 +5,7 @@ ghost use mathlib.Core.Path.{_≡_};
 ghost use Rattle.zone.specs.Zone.{freshZone, workOf, withWork, atTime, withRecorder, refusedIn, settled};
 
 pub mod movements;
+pub mod regimes;
 pub mod trains;
 pub mod works;
 

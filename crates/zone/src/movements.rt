@@ -11,12 +11,6 @@ ghost use Rattle.zone.specs.Movement.{
   routeFor,
   routeNumber,
   namedTurnouts,
-  workedTurnouts,
-  lackingOn,
-  regimeOn,
-  orderRefused,
-  isHeld,
-  isClear,
   movementFor,
   clearedAt,
   orderedAs,
@@ -25,9 +19,6 @@ ghost use mathlib.Core.Bool.{cond};
 ghost use Rattle.sets.specs.Sets.{single};
 use super::Movement;
 use super::Passage;
-use super::Regime;
-use super::Work;
-use super::works::agreed_set;
 use station::Route;
 use station::Station;
 
@@ -117,64 +108,6 @@ pub fn route_number(v: Movement) -> u8
         Movement::NoMovement => 255,
         Movement::Standing(p) => p.route,
     }
-}
-
-// The route's turnouts under agreed work.
-pub fn worked_turnouts(r: Route, w: Work) -> u64
-    ensures { λ s. ⌜ s ≡ workedTurnouts r w ⌝ }
-{
-    station::names(r) & agreed_set(w)
-}
-
-// Those of them that lack a clearance of the movement.
-pub fn lacking_clearance(r: Route, w: Work, v: Movement) -> u64
-    ensures { λ s. ⌜ s ≡ lackingOn r w v ⌝ }
-{
-    sets::minus(worked_turnouts(r, w), cleared_set(v))
-}
-
-// The regime of the movement on the route.
-pub fn regime(r: Route, w: Work, v: Movement) -> Regime
-    ensures { λ g. ⌜ g ≡ regimeOn r w v ⌝ }
-{
-    let worked = worked_turnouts(r, w);
-    if !sets::is_empty(sets::minus(worked, cleared_set(v))) {
-        return Regime::Held;
-    }
-    if sets::is_within(worked, efficient_set(v)) {
-        return Regime::Clear;
-    }
-    Regime::Danger
-}
-
-fn is_held(r: Regime) -> bool
-    ensures { λ b. ⌜ b ≡ isHeld r ⌝ }
-{
-    match r {
-        Regime::Held => true,
-        Regime::Clear => false,
-        Regime::Danger => false,
-    }
-}
-
-fn is_clear(r: Regime) -> bool
-    ensures { λ b. ⌜ b ≡ isClear r ⌝ }
-{
-    match r {
-        Regime::Held => false,
-        Regime::Clear => true,
-        Regime::Danger => false,
-    }
-}
-
-// Whether the regime forbids an order, 1 clear or 2 danger.
-pub fn order_refused(order: u8, r: Regime) -> bool
-    ensures { λ b. ⌜ b ≡ orderRefused order r ⌝ }
-{
-    if order == 1 {
-        return !is_clear(r);
-    }
-    is_held(r)
 }
 
 // A movement asked for.

@@ -1,6 +1,6 @@
 use borrow.Author.Needs.{needs}
-use Rattle.zone.proofs.movements.lacking_clearance.Statement.{statement}
-use Rattle.zone.proofs.movements.lacking_clearance.Tie as tie
+use Rattle.zone.proofs.regimes.lacking_clearance.Statement.{statement}
+use Rattle.zone.proofs.regimes.lacking_clearance.Tie as tie
 
 returns : tie.Need-returns
 returns c =

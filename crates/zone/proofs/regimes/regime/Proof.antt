@@ -1,7 +1,7 @@
 use Rattle.zone.specs.Movement.{regimeOn}
 use borrow.Author.Needs.{needs}
-use Rattle.zone.proofs.movements.regime.Statement.{statement}
-use Rattle.zone.proofs.movements.regime.Tie as tie
+use Rattle.zone.proofs.regimes.regime.Statement.{statement}
+use Rattle.zone.proofs.regimes.regime.Tie as tie
 
 returns : tie.Need-returns
 unfolding regimeOn

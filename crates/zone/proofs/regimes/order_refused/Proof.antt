@@ -1,7 +1,7 @@
 use borrow.Author.Tests.{eq-eqb, ne-eqb}
 use borrow.Author.Needs.{needs}
-use Rattle.zone.proofs.movements.order_refused.Statement.{statement}
-use Rattle.zone.proofs.movements.order_refused.Tie as tie
+use Rattle.zone.proofs.regimes.order_refused.Statement.{statement}
+use Rattle.zone.proofs.regimes.order_refused.Tie as tie
 
 returns : tie.Need-returns
 returns c =

@@ -1,6 +1,6 @@
 use borrow.Author.Needs.{needs}
-use Rattle.zone.proofs.movements.worked_turnouts.Statement.{statement}
-use Rattle.zone.proofs.movements.worked_turnouts.Tie as tie
+use Rattle.zone.proofs.regimes.worked_turnouts.Statement.{statement}
+use Rattle.zone.proofs.regimes.worked_turnouts.Tie as tie
 
 returns : tie.Need-returns
 returns c =

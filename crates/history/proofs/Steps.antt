@@ -18,7 +18,7 @@ use Rattle.zone.specs.Work.{agreedFrom, openedTo, shutTo, restoredOf}
 use Rattle.zone.specs.Movement.{underTrain, clearedSet, namedTurnouts, workedTurnouts, routeFor}
 use Rattle.zone.specs.Movement.{movementFor, clearedAt, orderedAs}
 use Rattle.rules.specs.Clearance.{isEfficient, clearanceFits}
-use Rattle.rules.specs.Kinds.{badRequest, badDetection}
+use Rattle.rules.specs.Tests.{badRequest, badDetection}
 use Rattle.history.specs.History.{opened}
 use Rattle.history.proofs.Append.{_then_}
 use Rattle.history.proofs.Works as works

@@ -18,7 +18,7 @@ use Rattle.zone.specs.declared.Work.{Work}
 use Rattle.zone.specs.declared.Work.the-variants.{NoWork, Asked, Agreed}
 use Rattle.zone.specs.Work.{hasWork, isAgreed, underForm, workSet, agreedSet, openSet, askedFor}
 use Rattle.zone.specs.Work.{agreedFrom, openedTo, shutTo, restoredOf}
-use Rattle.rules.specs.Kinds.{badRequest, badDetection}
+use Rattle.rules.specs.Tests.{badRequest, badDetection}
 use Rattle.history.specs.Since.{afterFirst}
 use Rattle.history.specs.History.{ends, agreement, agreedAfter, askedIn, underAgreedWork}
 use Rattle.history.specs.History.{opened, openToWork}

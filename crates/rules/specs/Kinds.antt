@@ -1,32 +1,31 @@
 -- The twelve kinds over one zone: document 01's table of kinds, row by row. A row is the list of
 -- its checks after 14, in the written order; effects are total functions of the zone and the
 -- message.
-use mathlib.Core.Bool.{Bool, true, cond, not, _&&_, _||_}
+use mathlib.Core.Bool.{Bool, true, cond, not}
 use mathlib.Core.List.{List, [], _∷_}
 use Prim.Native.Nat.{ℕ}
 use lib.Dec.{eqb, ltb}
 use lib.ListN.{getD}
-use Rattle.sets.specs.Sets.{has, single, isEmpty, overlaps, within, union}
-use Rattle.station.specs.declared.Route.{Route}
+use Rattle.sets.specs.Sets.{single, union}
 use Rattle.station.specs.declared.Station.{Station}
-use Rattle.station.specs.Station.{routeCount, zoneTurnouts, splits}
 use Rattle.message.specs.declared.Message.{Message}
 use Rattle.zone.specs.declared.Work.{Work}
 use Rattle.zone.specs.declared.Work.the-variants.{NoWork}
-use Rattle.zone.specs.declared.Movement.{Movement}
 use Rattle.zone.specs.declared.Movement.the-variants.{NoMovement}
 use Rattle.zone.specs.declared.Zone.{Zone}
 use Rattle.zone.specs.declared.Answer.{Answer}
 use Rattle.durations.specs.Minutes.{minutesBetween}
-use Rattle.zone.specs.Work.{hasWork, isAgreed, underForm, manner, workSet, agreedAt}
+use Rattle.zone.specs.Work.{hasWork, isAgreed, manner, workSet, agreedAt}
 use Rattle.zone.specs.Work.{askedFor, agreedFrom, openedTo, shutTo, restoredOf}
-use Rattle.zone.specs.Movement.{isStanding, isOrdered, clearedSet, workedTurnouts, regimeOn}
-use Rattle.zone.specs.Movement.{orderRefused, movementFor, clearedAt, orderedAs}
-use Rattle.zone.specs.Trains.{noPlace, namedStanding, clearedStanding, withMovement, changedUnder}
+use Rattle.zone.specs.Movement.{isOrdered, movementFor, clearedAt, orderedAs}
+use Rattle.zone.specs.Trains.{noPlace, withMovement, changedUnder}
 use Rattle.zone.specs.Zone.{workOf, nextZone, refusedIn, settled}
 use Rattle.rules.specs.declared.Concerned.{Concerned}
 use Rattle.rules.specs.Routes.{itsMovement, concerned}
-use Rattle.rules.specs.Clearance.{isEfficient, clearanceFits, mediumFits}
+use Rattle.rules.specs.Clearance.{isEfficient, mediumFits}
+use Rattle.rules.specs.Tests.{noWorkUnder, noMovementUnder, badRequest, badDetection}
+use Rattle.rules.specs.Tests.{badRoute, badPart, inTheWay, clearedAmong, deviceUnderVerbal}
+use Rattle.rules.specs.Tests.{isCleared, notWorked, misfits, orderForbidden}
 
 -- a check: the number that is given where the test holds
 pub data Check : Type 0 where
@@ -42,58 +41,6 @@ first ((test gives number) ∷ rest) = cond test number (first rest)
 -- a row of the table: the checks of a kind, the routes that bear on the message being given
 abbrev pub Row : Type 0
 Row = Station → Concerned → Zone → Message → List Check
-
--- 15: "no work or movement under this id"
-abbrev pub noWorkUnder : Zone → Message → Bool
-noWorkUnder z m = not (underForm (workOf z) (m .id))
-
--- 15 of kinds 6 to 9
-abbrev pub noMovementUnder : Zone → Message → Bool
-noMovementUnder z m = not (isStanding (itsMovement z m))
-
--- "a empty, outside the zone or splitting a crossover (Art. 2.16, 2.19)"
-abbrev pub badRequest : Station → ℕ → ℕ → Bool
-badRequest st zone a = isEmpty a || not (within a (zoneTurnouts st zone)) || splits st a
-
--- "both empty, overlapping or outside the work"
-abbrev pub badDetection : ℕ → ℕ → ℕ → Bool
-badDetection set a b = isEmpty (union a b) || overlaps a b || not (within (union a b) set)
-
--- "route not below R or of another zone"
-abbrev pub badRoute : Station → Route → ℕ → ℕ → Bool
-badRoute st r zone route = not (ltb route (routeCount st)) || not (eqb (r .zone) zone)
-
--- "a empty, not a proper part of the work, or splitting a crossover"
-abbrev pub badPart : Station → ℕ → ℕ → Bool
-badPart st set a = isEmpty a || not (within a set) || eqb a set || splits st a
-
--- "a standing movement names a turnout of the work (2, 11) or of a (10)"
-abbrev pub inTheWay : Station → Zone → ℕ → Bool
-inTheWay st z s = overlaps (namedStanding st z) s
-
--- "a cleared turnout in a or b"
-abbrev pub clearedAmong : Zone → ℕ → Bool
-clearedAmong z s = overlaps (clearedStanding z) s
-
--- "b not empty under verbal"
-abbrev pub deviceUnderVerbal : Work → ℕ → Bool
-deviceUnderVerbal w b = not (isEmpty b) && eqb (manner w) 2
-
--- "cleared already"
-abbrev pub isCleared : Movement → ℕ → Bool
-isCleared v n = has (clearedSet v) n
-
--- "not under agreed work or not named": of turnout n, a route and the zone's work
-abbrev pub notWorked : Route → Work → ℕ → Bool
-notWorked r w n = not (has (workedTurnouts r w) n)
-
--- a clearance that does not fit its turnout in a route
-abbrev pub misfits : Station → Route → Message → Bool
-misfits st r m = not (clearanceFits st r m)
-
--- an order that the regime on a route forbids
-abbrev pub orderForbidden : Route → Work → Movement → ℕ → Bool
-orderForbidden r w v order = orderRefused order (regimeOn r w v)
 
 -- 1 work asked: "16 work in zone; 17 .."
 abbrev pub row1 : Row

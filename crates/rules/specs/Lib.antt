@@ -1,3 +1,4 @@
 pub mod Clearance
 pub mod Routes
+pub mod Tests
 pub mod Kinds

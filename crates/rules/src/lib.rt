@@ -1,7 +1,7 @@
 // The tests of document 01's table of kinds that look at more than one thing. The rules are in specs/: the table of
-// kinds in Kinds.antt, what makes a clearance fit in Clearance.antt.
+// kinds in Kinds.antt, its tests in Tests.antt, what makes a clearance fit in Clearance.antt.
 ghost use mathlib.Core.Path.{_≡_};
-ghost use Rattle.rules.specs.Kinds.{
+ghost use Rattle.rules.specs.Tests.{
   noWorkUnder,
   noMovementUnder,
   badRequest,

@@ -6,6 +6,7 @@ pub mod Agrees
 pub mod Moves
 pub mod Works
 pub mod Steps
+pub mod ByKind
 pub mod Hearing
 pub mod Runs
 pub mod Standing

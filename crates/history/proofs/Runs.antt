@@ -26,7 +26,8 @@ use Rattle.history.specs.Lists.{keptAnswers, ofZone, isAccepted}
 use Rattle.history.specs.Demand3.{ours, hears}
 use Rattle.history.proofs.Append.{_then_}
 use Rattle.history.proofs.Agrees.{Agrees, agrees-fresh}
-use Rattle.history.proofs.Hearing.{step, Taken, hear-accepted, same-state}
+use Rattle.history.proofs.ByKind.{step}
+use Rattle.history.proofs.Hearing.{Taken, hear-accepted, same-state}
 
 -- every zone of the desk agrees with its history, and what is no zone of the station has none
 pub record AllAgree (st : Station) (d : Desk) (H : ℕ → List Message) : Type 0 where

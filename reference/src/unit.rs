@@ -6,10 +6,12 @@
 
 use crate::desk::{Desk, ZONES};
 use crate::message::Form;
+use crate::movement::{Movement, Train};
 use crate::replay::{movement_numbers, refused_movement, work_numbers};
 use crate::sheet;
 use crate::station::{Route, Station};
-use crate::zone::{Movement, Train, Work, Works, Zone};
+use crate::work::{Work, Works};
+use crate::zone::Zone;
 
 pub const DESK: usize = 520;
 /// Bytes that are no desk's.

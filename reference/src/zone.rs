@@ -4,117 +4,11 @@
 use crate::clearance::Clearance;
 use crate::message::{Aspect, Content, Form, Message};
 use crate::minutes;
+use crate::movement::{Movement, Regime, Standing, Train};
 use crate::refusal::{refuse, Refusal};
 use crate::set::{holds, only, Set};
-use crate::station::{Route, Station};
-
-#[derive(Clone, Copy, Debug, PartialEq, Eq)]
-pub struct Works {
-    pub id: u32,
-    pub form: Form,
-    pub turnouts: Set,
-}
-
-#[derive(Clone, Copy, Debug, PartialEq, Eq)]
-pub enum Work {
-    None,
-    Asked(Works),
-    Agreed { works: Works, since: u32, open: Set },
-}
-
-impl Work {
-    /// 01, 15: "no work or movement under this id".
-    fn under(&self, id: u32) -> Result<Works, Refusal> {
-        match self {
-            Work::Asked(works) | Work::Agreed { works, .. } if works.id == id => Ok(*works),
-            _ => Err(Refusal::UnknownId),
-        }
-    }
-
-    /// The turnouts under agreed work.
-    pub fn agreed_turnouts(&self) -> Set {
-        match self {
-            Work::Agreed { works, .. } => works.turnouts,
-            _ => 0,
-        }
-    }
-
-    pub fn open(&self) -> Set {
-        match self {
-            Work::Agreed { open, .. } => *open,
-            _ => 0,
-        }
-    }
-
-    fn shut(&mut self, turnouts: Set) {
-        if let Work::Agreed { open, .. } = self {
-            *open &= !turnouts;
-        }
-    }
-}
-
-#[derive(Clone, Copy, Debug, PartialEq, Eq)]
-pub struct Train<'s> {
-    pub id: u32,
-    /// The route's number in the station, and the route.
-    pub number: u8,
-    pub route: &'s Route,
-    /// 0, or the aspect it was ordered with.
-    pub order: u8,
-    pub cleared: Set,
-    /// Of those cleared, the ones declared all efficient.
-    pub efficient: Set,
-}
-
-impl Train<'_> {
-    pub fn ordered(&self) -> bool {
-        self.order != 0
-    }
-}
-
-#[derive(Clone, Copy, Debug, PartialEq, Eq)]
-pub enum Movement<'s> {
-    None,
-    Standing(Train<'s>),
-}
-
-impl<'s> Movement<'s> {
-    /// 01, 15: "no work or movement under this id".
-    fn under(&self, id: u32) -> Result<Train<'s>, Refusal> {
-        match self {
-            Movement::Standing(train) if train.id == id => Ok(*train),
-            _ => Err(Refusal::UnknownId),
-        }
-    }
-
-    fn names(&self, turnouts: Set) -> bool {
-        match self {
-            Movement::Standing(train) => train.route.named() & turnouts != 0,
-            Movement::None => false,
-        }
-    }
-
-    fn cleared(&self) -> Set {
-        match self {
-            Movement::Standing(train) => train.cleared,
-            Movement::None => 0,
-        }
-    }
-}
-
-#[derive(Clone, Copy, Debug, PartialEq, Eq)]
-pub enum Regime {
-    Held,
-    Clear,
-    Danger,
-}
-
-/// The regime and the turnouts still lacking a clearance.
-#[derive(Clone, Copy, Debug, PartialEq, Eq)]
-pub struct Standing {
-    pub regime: Regime,
-    pub lacking: Set,
-}
+use crate::station::Station;
+use crate::work::{Work, Works};
 
 #[derive(Clone, Copy, Debug, PartialEq, Eq)]
 pub struct Zone<'s> {
@@ -130,20 +24,9 @@ impl<'s> Zone<'s> {
         Zone { work: Work::None, movement: Movement::None, recorder_working: true, last: 0 }
     }
 
-    /// 01: "of the route's turnouts under agreed work, held if one lacks a clearance,
-    /// else clear if all carry 1 or 2, else danger".
+    /// How the movement of this train stands.
     pub fn standing(&self, train_id: u32) -> Result<Standing, Refusal> {
-        let train = self.movement.under(train_id)?;
-        let worked = train.route.named() & self.work.agreed_turnouts();
-        let lacking = worked & !train.cleared;
-        let regime = if lacking != 0 {
-            Regime::Held
-        } else if worked & !train.efficient == 0 {
-            Regime::Clear
-        } else {
-            Regime::Danger
-        };
-        Ok(Standing { regime, lacking })
+        Ok(self.movement.under(train_id)?.standing(self.work.agreed_turnouts()))
     }
 
     /// Checks 15 to 22 and the effect; returns the minutes. A refusal may leave `self` half changed:

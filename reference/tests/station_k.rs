@@ -4,11 +4,11 @@ use reference::builders::*;
 use reference::desk::Desk;
 use reference::history::History;
 use reference::message::{self, Message};
+use reference::movement::Regime;
 use reference::refusal::{number, Refusal};
 use reference::sheet::{self, SheetFault};
 use reference::signals::{verdict, Verdict};
 use reference::station::{Drive, Station, Turnout};
-use reference::zone::Regime;
 use reference::{journal, minutes, replay};
 
 fn station() -> Station {

@@ -4,9 +4,9 @@
 use reference::desk::Desk;
 use reference::history::History;
 use reference::message::{Message, RECORD};
+use reference::movement::Regime;
 use reference::replay::Answer;
 use reference::set::members;
-use reference::zone::Regime;
 
 /// The accepted messages and their minutes, or the sentence that does not hold.
 pub fn check(heard: &[([u8; RECORD], Answer)], desk: &Desk) -> Result<Vec<(Message, u32)>, String> {

@@ -2,9 +2,9 @@
 
 use reference::desk::Desk;
 use reference::message::{Message, RECORD};
+use reference::movement::{Movement, Regime};
 use reference::refusal::{number, Refusal};
 use reference::set::members;
-use reference::zone::{Movement, Regime};
 
 const PARTNERS: [&str; 2] = ["without a partner", "with a partner"];
 const UNFIT: [&str; 3] = [

@@ -7,9 +7,11 @@ use reference::builders;
 use reference::clearance::Position;
 use reference::desk::Desk;
 use reference::message::{Form, Message, RECORD};
+use reference::movement::{Movement, Train};
 use reference::set::{holds, only, Set};
 use reference::station::{Drive, Station};
-use reference::zone::{Movement, Train, Work, Works, Zone};
+use reference::work::{Work, Works};
+use reference::zone::Zone;
 
 /// The zones that a list mostly talks of, and the ids in use.
 pub struct Talk {

@@ -3,7 +3,7 @@
 use crate::compare::{Comparison, Files};
 use crate::Difference;
 use reference::station::Station;
-use reference::zone::Work;
+use reference::work::Work;
 use reference::{message, unit};
 
 impl Comparison {

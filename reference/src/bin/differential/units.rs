@@ -6,11 +6,11 @@ use crate::Difference;
 use reference::desk::{Desk, ZONES};
 use reference::library;
 use reference::message::RECORD;
+use reference::movement::Movement;
 use reference::refusal::number;
 use reference::replay::Answer;
 use reference::station::Station;
 use reference::unit::{self, DESK};
-use reference::zone::Movement;
 
 /// A unit's desk as the library has it, and as the reference has it.
 struct Unit {

@@ -8,7 +8,8 @@ use reference::minutes;
 use reference::refusal::{number, Refusal};
 use reference::replay::Answer;
 use reference::station::Station;
-use reference::zone::{Work, Zone};
+use reference::work::Work;
+use reference::zone::Zone;
 
 pub fn explain(station: &Station, journal: &[u8]) -> Result<String, Refusal> {
     let mut desk = Desk::fresh(station);

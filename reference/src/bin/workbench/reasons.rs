@@ -4,10 +4,12 @@ use crate::{plan, sheet_text, state, words};
 use reference::clearance::{Channel, Clearance};
 use reference::desk::Desk;
 use reference::message::{Content, Message};
+use reference::movement::Train;
 use reference::refusal::Refusal;
 use reference::set::{holds, members, only, Set};
 use reference::station::Station;
-use reference::zone::{Train, Work, Works, Zone};
+use reference::work::{Work, Works};
+use reference::zone::Zone;
 
 /// In words, what the refusal rests on; `desk` is the one before the message.
 pub fn reason(desk: &Desk, message: &Message, content: &Content, refusal: Refusal) -> String {

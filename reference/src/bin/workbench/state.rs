@@ -1,10 +1,12 @@
 //! What a zone holds, in words: its work and what is open, its movement, what is cleared, the regime.
 
 use crate::words;
+use reference::movement::{Movement, Regime, Train};
 use reference::refusal::Refusal;
 use reference::set::Set;
 use reference::station::Station;
-use reference::zone::{Movement, Regime, Train, Work, Works, Zone};
+use reference::work::{Work, Works};
+use reference::zone::Zone;
 
 /// One line for the work, one for the movement.
 pub fn zone(station: &Station, number: u8, zone: &Zone) -> [String; 2] {

@@ -1,0 +1,83 @@
+//! The movement of a zone: its train and route, its order, what is cleared for it, and the regime that follows.
+
+use crate::refusal::Refusal;
+use crate::set::Set;
+use crate::station::Route;
+
+#[derive(Clone, Copy, Debug, PartialEq, Eq)]
+pub struct Train<'s> {
+    pub id: u32,
+    /// The route's number in the station, and the route.
+    pub number: u8,
+    pub route: &'s Route,
+    /// 0, or the aspect it was ordered with.
+    pub order: u8,
+    pub cleared: Set,
+    /// Of those cleared, the ones declared all efficient.
+    pub efficient: Set,
+}
+
+impl Train<'_> {
+    pub fn ordered(&self) -> bool {
+        self.order != 0
+    }
+
+    /// 01: "of the route's turnouts under agreed work, held if one lacks a clearance,
+    /// else clear if all carry 1 or 2, else danger".
+    pub fn standing(&self, agreed: Set) -> Standing {
+        let worked = self.route.named() & agreed;
+        let lacking = worked & !self.cleared;
+        let regime = if lacking != 0 {
+            Regime::Held
+        } else if worked & !self.efficient == 0 {
+            Regime::Clear
+        } else {
+            Regime::Danger
+        };
+        Standing { regime, lacking }
+    }
+}
+
+#[derive(Clone, Copy, Debug, PartialEq, Eq)]
+pub enum Movement<'s> {
+    None,
+    Standing(Train<'s>),
+}
+
+impl<'s> Movement<'s> {
+    /// 01, 15: "no work or movement under this id".
+    pub fn under(&self, id: u32) -> Result<Train<'s>, Refusal> {
+        match self {
+            Movement::Standing(train) if train.id == id => Ok(*train),
+            _ => Err(Refusal::UnknownId),
+        }
+    }
+
+    pub fn names(&self, turnouts: Set) -> bool {
+        match self {
+            Movement::Standing(train) => train.route.named() & turnouts != 0,
+            Movement::None => false,
+        }
+    }
+
+    pub fn cleared(&self) -> Set {
+        match self {
+            Movement::Standing(train) => train.cleared,
+            Movement::None => 0,
+        }
+    }
+}
+
+#[derive(Clone, Copy, Debug, PartialEq, Eq)]
+pub enum Regime {
+    Held,
+    Clear,
+    Danger,
+}
+
+/// The regime and the turnouts still lacking a clearance.
+#[derive(Clone, Copy, Debug, PartialEq, Eq)]
+pub struct Standing {
+    pub regime: Regime,
+    pub lacking: Set,
+}

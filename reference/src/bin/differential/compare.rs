@@ -1,6 +1,7 @@
 //! The comparisons: each call made of the library and of this implementation, on the same bytes.
-//! Those of journals stand in `journals`, those of units in `units`, those of the writer in `writers`, those of the
-//! cabin panel in `panels`, those of minutes in `minutes`, those of split crossovers in `crossovers`.
+//! Those of records stand in `records`, those of journals in `journals`, those of units in `units`, those of the writer
+//! in `writers`, those of the cabin panel in `panels`, those of minutes in `minutes`, those of split crossovers in
+//! `crossovers`, those of works on signals in `verdicts`.
 
 use crate::lists::Talk;
 use crate::rng::Rng;
@@ -53,26 +54,6 @@ impl Files<'_> {
 impl Comparison {
     pub fn new(seed: u64) -> Comparison {
         Comparison { rng: Rng::new(seed), tally: Tally::new() }
-    }
-
-    /// All 1,152 verdicts, and numbers out of range on each side.
-    pub fn all_verdicts(&mut self) -> Result<(), Difference> {
-        for line in (0..=4).chain([255]) {
-            for signal in (0..=6).chain([255]) {
-                for flags in (0..=65).chain([127, 128, 255]) {
-                    self.verdict(line, signal, flags)?;
-                }
-            }
-        }
-        Ok(())
-    }
-
-    fn verdict(&mut self, line: u8, signal: u8, flags: u8) -> Result<(), Difference> {
-        let reference = replay::verdict_numbers(line, signal, flags);
-        self.tally.verdict(reference);
-        let packed = u32::from(reference[0]) + 256 * u32::from(reference[1]);
-        let files = Files { sheet: &[], journal: &[] };
-        files.same(|| format!("desk_verdict({line}, {signal}, {flags})"), library::verdict(line, signal, flags), packed)
     }
 
     /// One station and one list, with all calls on them.
@@ -253,35 +234,6 @@ impl Comparison {
                 library,
                 &reference[..],
             )?;
-        }
-        Ok(())
-    }
-
-    /// Record check and write.
-    fn records(&mut self, records: &[[u8; RECORD]]) -> Result<(), Difference> {
-        let files = Files { sheet: &[], journal: &[] };
-        for record in records {
-            if self.rng.chance(40) {
-                let longer = [&record[..], &[0; 32]].concat();
-                let length = self.rng.weighted(&[(8, 32), (1, 31), (1, 33), (1, 0), (1, 64)]);
-                let lent = &longer[..length];
-                let reference = number(&message::read(lent));
-                self.tally.inputs += 1;
-                self.tally.code(reference);
-                files.same(|| format!("desk_record({lent:?})"), library::record(lent), reference)?;
-            }
-            if self.rng.chance(30) {
-                let message = Message::from_bytes(record);
-                let length = self.rng.weighted(&[(8, 32), (1, 31), (1, 33), (1, 0), (1, 64)]);
-                let filled = self.rng.bytes(length);
-                let (mut by_library, mut by_reference) = (filled.clone(), filled);
-                let reference = number(&message::write(&message, &mut by_reference));
-                let library = library::write_record(&message, &mut by_library);
-                self.tally.inputs += 1;
-                self.tally.code(reference);
-                let call = || format!("desk_write_record({message:?}, buffer of {length} bytes)");
-                files.same(call, (library, by_library), (reference, by_reference))?;
-            }
         }
         Ok(())
     }

@@ -1,15 +1,16 @@
 //! Random lists of records: mostly a sensible next message from the state of the desk,
-//! mixed with untimely, slightly wrong and meaningless ones.
+//! mixed with untimely, slightly wrong and meaningless ones. Those about a movement stand in `train_lists`.
 
+use crate::near_misses::near_miss;
 use crate::rng::Rng;
+use crate::train_lists::any_clearance;
 use crate::{crossover_lists, times};
 use reference::builders;
-use reference::clearance::Position;
 use reference::desk::Desk;
 use reference::message::{Form, Message, RECORD};
 use reference::movement::{Movement, Train};
 use reference::set::{holds, only, Set};
-use reference::station::{Drive, Station};
+use reference::station::Station;
 use reference::work::{Work, Works};
 use reference::zone::Zone;
 
@@ -17,7 +18,7 @@ use reference::zone::Zone;
 pub struct Talk {
     zones: Vec<u8>,
     forms: [u32; 3],
-    trains: [u32; 3],
+    pub trains: [u32; 3],
 }
 
 impl Talk {
@@ -65,11 +66,11 @@ impl Talk {
 }
 
 /// A zone of the desk, as the generator sees it.
-struct Place<'p, 's> {
-    talk: &'p Talk,
-    station: &'s Station,
-    zone: u8,
-    state: &'p Zone<'s>,
+pub struct Place<'p, 's> {
+    pub talk: &'p Talk,
+    pub station: &'s Station,
+    pub zone: u8,
+    pub state: &'p Zone<'s>,
 }
 
 impl Place<'_, '_> {
@@ -126,45 +127,6 @@ impl Place<'_, '_> {
         part & !self.whole_crossovers(only(rng.member(part)))
     }
 
-    fn about_movement(&self, rng: &mut Rng) -> Message {
-        let Some(train) = self.train() else {
-            let routes: Vec<u8> = (0u8..)
-                .zip(&self.station.routes)
-                .filter(|(_, route)| route.zone == self.zone)
-                .map(|(n, _)| n)
-                .collect();
-            let route = if routes.is_empty() { rng.within(0..=63) as u8 } else { rng.pick(&routes) };
-            return builders::movement_asked(rng.pick(&self.talk.trains), route);
-        };
-        let lacking = train.route.named() & self.state.work.agreed_turnouts() & !train.cleared;
-        let ended = if train.ordered() { builders::passed(train.id) } else { builders::cancelled(train.id) };
-        match rng.within(0..=9) {
-            0 => ended,
-            _ if lacking != 0 => self.clearance(rng, train, lacking),
-            _ if train.ordered() => ended,
-            _ => builders::ordered(train.id, if train.efficient == train.cleared { rng.pick(&[1, 1, 2]) } else { 2 }),
-        }
-    }
-
-    /// A clearance that fits, but for d5 now and then.
-    fn clearance(&self, rng: &mut Rng, train: &Train, lacking: Set) -> Message {
-        let turnout = rng.member(lacking);
-        let electric = self.station.turnout(turnout).is_some_and(|turnout| turnout.drive == Drive::Electric);
-        let lesser = if electric { rng.pick(&[3, 4, 5, 6]) } else { rng.pick(&[7, 8, 9]) };
-        let declaration = if rng.chance(70) { rng.pick(&[1, 2]) } else { lesser };
-        let clamp = match (holds(train.route.run_over, turnout), declaration) {
-            (true, 4 | 6 | 9) => 1,
-            (true, 8) => rng.pick(&[1, 2]),
-            _ => 0,
-        };
-        let position = u8::from(train.route.position(turnout) == Position::Reverse);
-        let channel = if self.state.recorder_working { 1 } else { 2 };
-        // 02, M-101: "Declarations 1 and 2 on a turnout with a partner need d5 = 1. In every other clearance d5 is 0."
-        let due = u8::from(declaration <= 2 && self.station.has_partner(turnout));
-        let ends = rng.weighted(&[(85, due), (12, 1 - due), (3, 2)]);
-        builders::cleared(train.id, [turnout, declaration, position, clamp, channel]).d(5, ends)
-    }
-
     /// A message of any kind that reads (a clearance's d5 may be 2), whatever the state.
     fn untimely(&self, rng: &mut Rng) -> Message {
         let kind = rng.within(1..=12) as u8;
@@ -183,7 +145,6 @@ impl Place<'_, '_> {
         };
         let zone_turnouts = self.station.of_zone(self.zone);
         let base = builders::message(kind, id);
-        let below = |rng: &mut Rng, limit: usize| rng.index((limit + 1).min(64)) as u8;
         match kind {
             1 => Message { a: self.any_part(rng, zone_turnouts), ..base.d(0, rng.pick(&[1, 2])) },
             10 => Message { a: self.any_part(rng, zone_turnouts), ..base },
@@ -193,14 +154,8 @@ impl Place<'_, '_> {
             }
             5 => base.d(0, below(rng, self.station.routes.len())),
             6 => {
-                let turnout = match self.train().map_or(0, |train| train.route.named()) {
-                    named if named != 0 && rng.chance(80) => rng.member(named),
-                    _ => below(rng, self.station.turnouts.len()),
-                };
-                let declaration = rng.within(1..=9) as u8;
-                let (position, clamp) = (rng.within(0..=1) as u8, rng.within(0..=2) as u8);
-                let (channel, ends) = (rng.pick(&[1, 2]), rng.weighted(&[(5, 0), (5, 1), (1, 2)]));
-                Message { d: [turnout, declaration, position, clamp, channel, ends], ..base }
+                let turnout = self.any_turnout(rng);
+                any_clearance(rng, base.d(0, turnout))
             }
             7 => base.d(0, rng.pick(&[1, 2])),
             12 => base.d(0, rng.pick(&[0, 1])),
@@ -208,7 +163,15 @@ impl Place<'_, '_> {
         }
     }
 
-    fn train(&self) -> Option<&Train<'_>> {
+    /// Mostly one that the standing movement's route names.
+    fn any_turnout(&self, rng: &mut Rng) -> u8 {
+        match self.train().map_or(0, |train| train.route.named()) {
+            named if named != 0 && rng.chance(80) => rng.member(named),
+            _ => below(rng, self.station.turnouts.len()),
+        }
+    }
+
+    pub fn train(&self) -> Option<&Train<'_>> {
         match &self.state.movement {
             Movement::Standing(train) => Some(train),
             Movement::None => None,
@@ -246,49 +209,15 @@ impl Place<'_, '_> {
     }
 }
 
+/// A number below the limit, or the limit; at most 63.
+fn below(rng: &mut Rng, limit: usize) -> u8 {
+    rng.index((limit + 1).min(64)) as u8
+}
+
 /// Part restoration is for recorded verbal agreements.
 fn part_weight(form: Form) -> u32 {
     match form {
         Form::RecordedVerbal => 4,
         _ => 1,
-    }
-}
-
-/// One detail of a clearance changed to another good value.
-fn other_clearance(rng: &mut Rng, message: Message) -> Message {
-    let [_, _, position, _, channel, ends] = message.d;
-    match rng.within(0..=4) {
-        0 => message.d(1, rng.within(1..=9) as u8),
-        1 => message.d(2, 1 - position),
-        2 => message.d(3, rng.within(0..=2) as u8),
-        3 => message.d(4, 3 - channel),
-        _ => message.d(5, u8::from(ends == 0)),
-    }
-}
-
-/// One field changed a little.
-fn near_miss(rng: &mut Rng, message: Message, last: u32) -> Message {
-    if message.kind == 6 && rng.chance(50) {
-        return other_clearance(rng, message);
-    }
-    let bit = only(rng.within(0..=63) as u8);
-    match rng.within(0..=16) {
-        0 => message.at(last.saturating_sub(1)),
-        1 => message.at(last.saturating_sub(rng.within(1..=90))),
-        2 => Message { id: message.id.wrapping_add(1), ..message },
-        3 => Message { id: 0, ..message },
-        4 => message.in_zone(rng.within(0..=9) as u8),
-        5 => message.in_zone(rng.byte()),
-        6 => Message { a: message.a ^ bit, ..message },
-        7 => Message { a: message.a & message.a.wrapping_sub(1), ..message },
-        8 => Message { a: message.a ^ only(rng.within(0..=5) as u8), ..message },
-        9 => Message { b: message.b ^ only(rng.within(0..=5) as u8), ..message },
-        10 => Message { b: message.a, ..message },
-        11 => Message { a: 0, b: 0, ..message },
-        12 => message.d(rng.index(6), rng.pick(&[0, 1, 2, 3, 9, 10, 62, 63, 64, 255])),
-        13 => message.d(rng.index(6), rng.byte()),
-        14 => message.d(rng.index(5), rng.within(0..=2) as u8),
-        15 => message.d(5, rng.pick(&[1, 1, 2])),
-        _ => Message { kind: rng.within(0..=14) as u8, ..message },
     }
 }

@@ -10,14 +10,18 @@ mod ends;
 mod journals;
 mod lists;
 mod minutes;
+mod near_misses;
 mod panel_sheets;
 mod panels;
 mod raw_stations;
+mod records;
 mod rng;
 mod stations;
 mod tally;
 mod times;
+mod train_lists;
 mod units;
+mod verdicts;
 mod writers;
 
 use compare::Comparison;

@@ -1,0 +1,59 @@
+//! Messages of a random list about the movement of a zone: asked, cleared, ordered, ended.
+
+use crate::lists::Place;
+use crate::rng::Rng;
+use reference::builders;
+use reference::clearance::Position;
+use reference::message::Message;
+use reference::movement::Train;
+use reference::set::{holds, Set};
+use reference::station::Drive;
+
+impl Place<'_, '_> {
+    pub fn about_movement(&self, rng: &mut Rng) -> Message {
+        let Some(train) = self.train() else {
+            let routes: Vec<u8> = (0u8..)
+                .zip(&self.station.routes)
+                .filter(|(_, route)| route.zone == self.zone)
+                .map(|(n, _)| n)
+                .collect();
+            let route = if routes.is_empty() { rng.within(0..=63) as u8 } else { rng.pick(&routes) };
+            return builders::movement_asked(rng.pick(&self.talk.trains), route);
+        };
+        let lacking = train.route.named() & self.state.work.agreed_turnouts() & !train.cleared;
+        let ended = if train.ordered() { builders::passed(train.id) } else { builders::cancelled(train.id) };
+        match rng.within(0..=9) {
+            0 => ended,
+            _ if lacking != 0 => self.clearance(rng, train, lacking),
+            _ if train.ordered() => ended,
+            _ => builders::ordered(train.id, if train.efficient == train.cleared { rng.pick(&[1, 1, 2]) } else { 2 }),
+        }
+    }
+
+    /// A clearance that fits, but for d5 now and then.
+    fn clearance(&self, rng: &mut Rng, train: &Train, lacking: Set) -> Message {
+        let turnout = rng.member(lacking);
+        let electric = self.station.turnout(turnout).is_some_and(|turnout| turnout.drive == Drive::Electric);
+        let lesser = if electric { rng.pick(&[3, 4, 5, 6]) } else { rng.pick(&[7, 8, 9]) };
+        let declaration = if rng.chance(70) { rng.pick(&[1, 2]) } else { lesser };
+        let clamp = match (holds(train.route.run_over, turnout), declaration) {
+            (true, 4 | 6 | 9) => 1,
+            (true, 8) => rng.pick(&[1, 2]),
+            _ => 0,
+        };
+        let position = u8::from(train.route.position(turnout) == Position::Reverse);
+        let channel = if self.state.recorder_working { 1 } else { 2 };
+        // 02, M-101: "Declarations 1 and 2 on a turnout with a partner need d5 = 1. In every other clearance d5 is 0."
+        let due = u8::from(declaration <= 2 && self.station.has_partner(turnout));
+        let ends = rng.weighted(&[(85, due), (12, 1 - due), (3, 2)]);
+        builders::cleared(train.id, [turnout, declaration, position, clamp, channel]).d(5, ends)
+    }
+}
+
+/// A clearance with any details that read, but for a d5 of 2 now and then; d0 stays.
+pub fn any_clearance(rng: &mut Rng, message: Message) -> Message {
+    let declaration = rng.within(1..=9) as u8;
+    let (position, clamp) = (rng.within(0..=1) as u8, rng.within(0..=2) as u8);
+    let (channel, ends) = (rng.pick(&[1, 2]), rng.weighted(&[(5, 0), (5, 1), (1, 2)]));
+    Message { d: [message.d[0], declaration, position, clamp, channel, ends], ..message }
+}

@@ -20,7 +20,7 @@ use Rattle.desk.specs.Desk.{zoneAt}
 abbrev pub movementRefused : ℕ → MovementAnswer
 movementRefused number = record { code = number; regime = Held; lowest = 255; count = 0 }
 
--- "the lowest-numbered turnout still lacking one", 255 if none
+-- "the lowest-numbered turnout still lacking one", a clearance or a key, 255 if none
 abbrev pub lowestOf : ℕ → ℕ
 lowestOf s = cond (isEmpty s) 255 (lowest s)
 

@@ -40,8 +40,8 @@ pub struct Applied {
     pub desk: Desk,
 }
 
-// The answer to the movement question: the regime, the lowest-numbered turnout that lacks a clearance (255 if none),
-// and how many lack one.
+// The answer to the movement question: the regime, the lowest-numbered turnout that has neither a clearance nor a key
+// (255 if none), and how many have neither.
 pub struct MovementAnswer {
     pub code: u8,
     pub regime: Regime,

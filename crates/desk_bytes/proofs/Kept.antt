@@ -1,6 +1,6 @@
 -- Which bytes are a desk's, by their fields: what each test of src/checking.rt tells.
 use mathlib.Core.Path.{_≡_, refl, sym, ap, _∙_}
-use mathlib.Core.Bool.{Bool, true, false, cond, _&&_, and-assoc}
+use mathlib.Core.Bool.{Bool, true, false, cond, _&&_, _||_, and-assoc}
 use mathlib.Core.List.{List}
 use Prim.Native.Nat.{ℕ, suc, _+_, _*_, _-_, _≤_, _<_}
 use native.Mathlib.Omega.{arith}
@@ -12,6 +12,7 @@ use mir.Val.{Fits}
 use Rattle.bigendian.specs.BigEndian.{Bytes, byteAt, bytesAt, numberAt}
 use Rattle.bigendian.proofs.Places.{number-lt, bytesAt-all}
 use Rattle.zone.specs.declared.Zone.{Zone}
+use Rattle.zone.specs.Movement.{keySet}
 use Rattle.desk.specs.Desk.{zoneAt}
 use Rattle.desk_bytes.specs.Encoding.{
   workBytes,
@@ -100,6 +101,19 @@ no-movement-kept s at byte not-one =
     movement-stands s at (movementIn s at) byte (movement-typed s at byte)
     ∙ rw (ne-eqb (byteAt s at) 1 not-one)
 
+-- its keys: those of a movement that stands, whatever they are, or none
+pub keys-kept : (s : List ℕ) (at : ℕ)
+    → eqb (numberAt 8 s (at + 28)) (keySet (movementIn s at))
+    ≡ (eqb (byteAt s at) 1 || eqb (numberAt 8 s (at + 28)) 0)
+unfolding movementIn
+keys-kept s at = go (eqb (byteAt s at) 1) refl
+  where
+    go : (one : Bool) → eqb (byteAt s at) 1 ≡ one
+        → eqb (numberAt 8 s (at + 28)) (keySet (movementIn s at))
+        ≡ (eqb (byteAt s at) 1 || eqb (numberAt 8 s (at + 28)) 0)
+    go true p = rw p (eqb-self (numberAt 8 s (at + 28)))
+    go false p = rw p
+
 -- a recorder's byte that is written as it was read is 0 or 1
 recorder-kept : (b : ℕ) → eqb b (cond (eqb b 1) 1 0) ≡ ltb b 2
 recorder-kept b = go (eqb b 1) refl (eqb b 0) refl
@@ -116,22 +130,24 @@ recorder-kept b = go (eqb b 1) refl (eqb b 0) refl
         let more : 2 ≤ b = omega (arith, eqb-false b 1 p, eqb-false b 0 q) in
         rw (p, q, le-ltb b 2 more)
 
--- a zone: its work, its movement, the recorder's byte, the reserved bytes
+-- a zone: its work, its movement, the recorder's byte, the keys, the reserved bytes
 pub zone-kept : (s : List ℕ) (at : ℕ) → Bytes s
     → standAt s at (zoneBytes (zoneIn s at))
     ≡ (standAt s at (workBytes (workIn s at))
     && standAt s (at + 26) (movementBytes (movementIn s (at + 26)))
     && ltb (byteAt s (at + 49)) 2
-    && eqb (numberAt 8 s (at + 54)) 0
+    && eqb (numberAt 8 s (at + 26 + 28)) (keySet (movementIn s (at + 26)))
     && eqb (numberAt 2 s (at + 62)) 0)
 unfolding zoneIn
 zone-kept s at byte =
     let z = zoneIn s at in
     let p50 : at + 49 + 1 ≡ at + 50 = omega arith in
-    let p54 : at + 49 + 5 ≡ at + 54 = omega arith in
+    let p54 : at + 49 + 5 ≡ at + 26 + 28 = omega arith in
     let p62 : at + 49 + 13 ≡ at + 62 = omega arith in
-    let fits = number-lt 4 s (at + 50) byte in
-    let last = last-stands s (at + 49) (z .recorder) (z .time) byte fits in
+    let keys = keySet (z .movement) in
+    let time-fits = number-lt 4 s (at + 50) byte in
+    let keys-fit = movement-typed s (at + 26) byte .keys in
+    let last = last-stands s (at + 49) (z .recorder) (z .time) keys byte time-fits keys-fit in
     let recorder = recorder-kept (byteAt s (at + 49)) in
     zone-stands s at z
     ∙ rw (last, p50, p54, p62, recorder, eqb-self (z .time)) (simp and-assoc)

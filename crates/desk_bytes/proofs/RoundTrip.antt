@@ -17,6 +17,7 @@ use Rattle.zone.specs.declared.Movement.{Movement}
 use Rattle.zone.specs.declared.Movement.the-variants.{NoMovement, Standing}
 use Rattle.zone.specs.declared.Zone.{Zone}
 use Rattle.desk.specs.declared.Desk.{Desk}
+use Rattle.zone.specs.Movement.{keySet}
 use Rattle.zone.specs.Zone.{noZone}
 use Rattle.desk.specs.Desk.{zoneAt}
 use Rattle.desk_bytes.specs.Encoding.{workBytes, movementBytes, lastBytes, zoneBytes}
@@ -51,21 +52,26 @@ work-read (Agreed g) fits rest =
       opened = opened i;
     })
 
+-- a movement after the bytes of a zone's work and before the zone's last bytes, which have its keys
 movement-read :
-    (w : Work) (v : Movement) → TypedMovement v → (rest : List ℕ) →
-    movementIn (workBytes w ++ (movementBytes v ++ rest)) 26 ≡ v
-unfolding movementIn workBytes movementBytes
-movement-read w NoMovement fits rest = refl
-movement-read w (Standing p) fits rest =
+    (w : Work) (v : Movement) → TypedMovement v →
+    (working : Bool) (time : ℕ) (rest : List ℕ) →
+    movementIn (workBytes w ++ (movementBytes v ++ (lastBytes working time (keySet v) ++ rest))) 26
+    ≡ v
+unfolding movementIn workBytes movementBytes lastBytes
+movement-read w NoMovement fits working time rest = refl
+movement-read w (Standing p) fits working time rest =
     let train = value-bytes 4 (p .train) ∙ mod-eq-of-lt (fits .train) in
     let cleared = value-bytes 8 (p .cleared) ∙ mod-eq-of-lt (fits .cleared) in
     let efficient = value-bytes 8 (p .efficient) ∙ mod-eq-of-lt (fits .efficient) in
+    let keys = value-bytes 8 (p .keys) ∙ mod-eq-of-lt (fits .keys) in
     λ i. Standing (record {
       train = train i;
       route = p .route;
       order = p .order;
       cleared = cleared i;
       efficient = efficient i;
+      keys = keys i;
     })
 
 recorder-read : (working : Bool) → eqb (cond working 1 0) 1 ≡ working
@@ -75,9 +81,10 @@ recorder-read false = refl
 zone-read : (z : Zone) → TypedZone z → (rest : List ℕ) → zoneIn (zoneBytes z ++ rest) 0 ≡ z
 unfolding zoneIn zoneBytes workBytes movementBytes lastBytes
 zone-read z fits rest =
-    let last = lastBytes (z .recorder) (z .time) ++ rest in
-    let work = work-read (z .work) (fits .work) (movementBytes (z .movement) ++ last) in
-    let movement = movement-read (z .work) (z .movement) (fits .movement) last in
+    let v = z .movement in
+    let last = lastBytes (z .recorder) (z .time) (keySet v) ++ rest in
+    let work = work-read (z .work) (fits .work) (movementBytes v ++ last) in
+    let movement = movement-read (z .work) v (fits .movement) (z .recorder) (z .time) rest in
     let recorder = recorder-read (z .recorder) in
     let time = value-bytes 4 (z .time) ∙ mod-eq-of-lt (fits .time) in
     λ i. record { work = work i; movement = movement i; recorder = recorder i; time = time i }

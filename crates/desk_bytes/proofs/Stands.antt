@@ -16,7 +16,7 @@ use Rattle.zone.specs.declared.Work.{Work}
 use Rattle.zone.specs.declared.Movement.{Movement}
 use Rattle.zone.specs.declared.Zone.{Zone}
 use Rattle.zone.specs.Work.{formOf, manner, workSet, agreedAt, openSet}
-use Rattle.zone.specs.Movement.{trainOf, orderOf, clearedSet, efficientSet}
+use Rattle.zone.specs.Movement.{trainOf, orderOf, clearedSet, efficientSet, keySet}
 use Rattle.desk_bytes.specs.Encoding.{
   stageOf,
   workBytes,
@@ -131,22 +131,23 @@ movement-stands s at v byte fits =
     let all = byte-then s at (standingOf v) (at + 1) (routeNumber v ∷ r2) refl route in
     simp and-assoc all
 
--- and so do the recorder, the time and the reserved bytes
-pub last-stands : (s : List ℕ) (at : ℕ) (working : Bool) (time : ℕ) → Bytes s → time < 2 ^ 32
-    → standAt s at (lastBytes working time)
+-- and so do the recorder, the time, the keys and the reserved bytes
+pub last-stands : (s : List ℕ) (at : ℕ) (working : Bool) (time keys : ℕ) → Bytes s
+    → time < 2 ^ 32 → keys < 2 ^ 64
+    → standAt s at (lastBytes working time keys)
     ≡ (eqb (byteAt s at) (cond working 1 0)
     && eqb (numberAt 4 s (at + 1)) time
-    && eqb (numberAt 8 s (at + 5)) 0
+    && eqb (numberAt 8 s (at + 5)) keys
     && eqb (numberAt 2 s (at + 13)) 0)
 unfolding lastBytes
-last-stands s at working time byte fits =
+last-stands s at working time keys byte time-fits keys-fit =
     let r2 = beBytes 2 0 in
-    let r1 = beBytes 8 0 ++ r2 in
+    let r1 = beBytes 8 keys ++ r2 in
     let end = number-stands 2 s (at + 13) 0 byte (lit< tt) in
     let p13 : at + 5 + 8 ≡ at + 13 = omega arith in
-    let reserved = number-then 8 s (at + 5) 0 (at + 13) r2 byte (lit< tt) p13 end in
+    let used = number-then 8 s (at + 5) keys (at + 13) r2 byte keys-fit p13 end in
     let p5 : at + 1 + 4 ≡ at + 5 = omega arith in
-    let clock = number-then 4 s (at + 1) time (at + 5) r1 byte fits p5 reserved in
+    let clock = number-then 4 s (at + 1) time (at + 5) r1 byte time-fits p5 used in
     let all = byte-then s at (cond working 1 0) (at + 1) (beBytes 4 time ++ r1) refl clock in
     simp and-assoc all
 
@@ -155,12 +156,12 @@ pub zone-stands : (s : List ℕ) (at : ℕ) (z : Zone)
     → standAt s at (zoneBytes z)
     ≡ (standAt s at (workBytes (z .work))
     && (standAt s (at + 26) (movementBytes (z .movement))
-    && standAt s (at + 49) (lastBytes (z .recorder) (z .time))))
+    && standAt s (at + 49) (lastBytes (z .recorder) (z .time) (keySet (z .movement)))))
 unfolding zoneBytes workBytes movementBytes
 zone-stands s at z =
     let work = workBytes (z .work) in
     let movement = movementBytes (z .movement) in
-    let last = lastBytes (z .recorder) (z .time) in
+    let last = lastBytes (z .recorder) (z .time) (keySet (z .movement)) in
     let p49 : at + 26 + length movement ≡ at + 49 = omega arith in
     let later = part-stands s (at + 26) movement (at + 49) last p49 in
     part-stands s at work (at + 26) (movement ++ last) refl

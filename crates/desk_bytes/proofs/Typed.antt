@@ -19,7 +19,8 @@ pub no-work-typed : TypedWork NoWork
 no-work-typed = record { form = lit< tt; set = lit< tt; since = lit< tt; opened = lit< tt }
 
 pub no-movement-typed : TypedMovement NoMovement
-no-movement-typed = record { train = lit< tt; cleared = lit< tt; efficient = lit< tt }
+no-movement-typed =
+    record { train = lit< tt; cleared = lit< tt; efficient = lit< tt; keys = lit< tt }
 
 pub work-typed : (s : List ℕ) (at : ℕ) → Bytes s → TypedWork (workIn s at)
 unfolding workIn
@@ -57,6 +58,7 @@ movement-typed s at byte = go (eqb (byteAt s at) 1) refl
           train = number-lt 4 s (at + 3) byte;
           cleared = number-lt 8 s (at + 7) byte;
           efficient = number-lt 8 s (at + 15) byte;
+          keys = number-lt 8 s (at + 28) byte;
         })
     go false p = rw p no-movement-typed
 

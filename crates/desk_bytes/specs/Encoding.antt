@@ -13,7 +13,7 @@ use Rattle.zone.specs.declared.Movement.{Movement}
 use Rattle.zone.specs.declared.Movement.the-variants.{NoMovement, Standing}
 use Rattle.zone.specs.declared.Zone.{Zone}
 use Rattle.zone.specs.Work.{formOf, manner, workSet, agreedAt, openSet}
-use Rattle.zone.specs.Movement.{trainOf, orderOf, clearedSet, efficientSet}
+use Rattle.zone.specs.Movement.{trainOf, orderOf, clearedSet, efficientSet, keySet}
 use Rattle.desk.specs.declared.Desk.{Desk}
 use Rattle.desk.specs.Desk.{zoneAt}
 
@@ -32,8 +32,8 @@ stageOf (Agreed g) = 2
 unfoldable pub workBytes : Work → List ℕ
 workBytes w = workFields (stageOf w) (manner w) (formOf w) (workSet w) (agreedAt w) (openSet w)
 
--- the movement of a zone, 23 bytes: whether one stands, the route, the order, the train (4 bytes),
--- the turnouts cleared for it (8), those of them that are efficient (8)
+-- the movement of a zone without its keys, 23 bytes: whether one stands, the route, the order, the
+-- train (4 bytes), the turnouts cleared for it (8), those of them that are efficient (8)
 abbrev pub movementFields : ℕ → ℕ → ℕ → ℕ → ℕ → ℕ → List ℕ
 movementFields standing route order train cleared efficient =
     standing ∷ route ∷ order ∷ (beBytes 4 train ++ (beBytes 8 cleared ++ beBytes 8 efficient))
@@ -52,15 +52,19 @@ movementBytes v =
     movementFields (standingOf v) (routeNumber v) (orderOf v)
     (trainOf v) (clearedSet v) (efficientSet v)
 
--- the recorder (1 while it works), the last accepted time (4 bytes), 10 reserved bytes
-unfoldable pub lastBytes : Bool → ℕ → List ℕ
-lastBytes working time = cond working 1 0 ∷ (beBytes 4 time ++ replicate 10 0)
+-- the recorder (1 while it works), the last accepted time (4 bytes), the turnouts on which a
+-- release key was used for the movement (8), 2 reserved bytes
+unfoldable pub lastBytes : Bool → ℕ → ℕ → List ℕ
+lastBytes working time keys =
+    cond working 1 0 ∷ (beBytes 4 time ++ (beBytes 8 keys ++ replicate 2 0))
 
 -- a zone, 64 bytes
 unfoldable pub zoneBytes : Zone → List ℕ
 unfolding workBytes movementBytes lastBytes
 zoneBytes z =
-    workBytes (z .work) ++ (movementBytes (z .movement) ++ lastBytes (z .recorder) (z .time))
+    workBytes (z .work)
+    ++ (movementBytes (z .movement)
+    ++ lastBytes (z .recorder) (z .time) (keySet (z .movement)))
 
 -- n zones from zone k on
 unfoldable pub zonesFrom : Desk → ℕ → ℕ → List ℕ
@@ -102,7 +106,8 @@ workIn s at =
     }))
     NoWork)
 
--- the movement that stands in the bytes from a place on; a first byte that is not 1 as no movement
+-- the movement that stands in the bytes from a place on; a first byte that is not 1 as no movement.
+-- Its keys stand after the zone's recorder and time
 unfoldable pub movementIn : List ℕ → ℕ → Movement
 movementIn s at =
     cond (eqb (byteAt s at) 1)
@@ -112,6 +117,7 @@ movementIn s at =
       order = byteAt s (at + 2);
       cleared = numberAt 8 s (at + 7);
       efficient = numberAt 8 s (at + 15);
+      keys = numberAt 8 s (at + 28);
     }))
     NoMovement
 

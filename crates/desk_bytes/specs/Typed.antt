@@ -7,7 +7,7 @@ use Rattle.zone.specs.declared.Work.{Work}
 use Rattle.zone.specs.declared.Movement.{Movement}
 use Rattle.zone.specs.declared.Zone.{Zone}
 use Rattle.zone.specs.Work.{formOf, workSet, agreedAt, openSet}
-use Rattle.zone.specs.Movement.{trainOf, clearedSet, efficientSet}
+use Rattle.zone.specs.Movement.{trainOf, clearedSet, efficientSet, keySet}
 use Rattle.desk.specs.declared.Desk.{Desk}
 use Rattle.desk.specs.Desk.{zoneAt}
 
@@ -22,6 +22,7 @@ pub record TypedMovement (v : Movement) : Type 0 where
   pub train : trainOf v < 2 ^ 32
   pub cleared : clearedSet v < 2 ^ 64
   pub efficient : efficientSet v < 2 ^ 64
+  pub keys : keySet v < 2 ^ 64
 
 pub record TypedZone (z : Zone) : Type 0 where
   pub work : TypedWork (z .work)

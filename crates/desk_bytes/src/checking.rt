@@ -1,6 +1,5 @@
 // Whether bytes are a desk's: in each place stands what the zone that is read there is encoded to.
 ghost use mathlib.Core.Path.{_≡_};
-ghost use Prim.Native.Nat.{_<_};
 ghost use Rattle.desk_bytes.specs.Encoding.{
   workBytes,
   movementBytes,
@@ -12,6 +11,10 @@ ghost use Rattle.desk_bytes.specs.Encoding.{
   deskIn,
 };
 ghost use Rattle.desk_bytes.specs.StandAt.{standAt};
+ghost use Prim.Native.Nat.{_+_, _<_};
+ghost use Rattle.bigendian.specs.BigEndian.{numberAt};
+ghost use Rattle.zone.specs.Movement.{keySet};
+ghost use lib.Dec.{eqb};
 use desk::Desk;
 
 // A stage of 0, 1 or 2; asked work has 0 in the fields of an agreement, no work 0 in every field.
@@ -51,7 +54,15 @@ fn movement_kept(s: &[u8], at: usize) -> bool
         & (bigendian::get64(s, at + 15) == 0)
 }
 
-// Its work, its movement, a recorder's byte of 0 or 1, and 10 reserved bytes of 0.
+// No movement has no keys.
+fn keys_kept(s: &[u8], at: usize) -> bool
+    requires { ⌜ at < 4096 ⌝ }
+    ensures { λ r. ⌜ r ≡ eqb (numberAt 8 (now (s .entry)) (at + 28)) (keySet (movementIn (now (s .entry)) at)) ⌝ }
+{
+    (bigendian::get8(s, at) == 1) | (bigendian::get64(s, at + 28) == 0)
+}
+
+// Its work, its movement, a recorder's byte of 0 or 1, the keys, and 2 reserved bytes of 0.
 fn zone_kept(s: &[u8], at: usize) -> bool
     requires { ⌜ at < 2048 ⌝ }
     ensures { λ r. ⌜ r ≡ standAt (now (s .entry)) at (zoneBytes (zoneIn (now (s .entry)) at)) ⌝ }
@@ -59,7 +70,7 @@ fn zone_kept(s: &[u8], at: usize) -> bool
     work_kept(s, at)
         & movement_kept(s, at + 26)
         & (bigendian::get8(s, at + 49) < 2)
-        & (bigendian::get64(s, at + 54) == 0)
+        & keys_kept(s, at + 26)
         & (bigendian::get16(s, at + 62) == 0)
 }
 

@@ -45,6 +45,7 @@ fn movement_in(s: &[u8], at: usize) -> Movement
             order: bigendian::get8(s, at + 2),
             cleared: bigendian::get64(s, at + 7),
             efficient: bigendian::get64(s, at + 15),
+            keys: bigendian::get64(s, at + 28),
         });
     }
     Movement::NoMovement

@@ -17,6 +17,7 @@ use desk::Desk;
 use zone::Movement;
 use zone::Work;
 use zone::Zone;
+use zone::movements::key_set;
 
 // The version, 1, in the first of 8 bytes.
 pub const HEAD: u64 = 72057594037927936;
@@ -105,13 +106,13 @@ fn recorder_byte(working: bool) -> u8
     0
 }
 
-fn put_last(working: bool, time: u32, s: &mut [u8], at: usize)
+fn put_last(working: bool, time: u32, keys: u64, s: &mut [u8], at: usize)
     requires { ⌜ at < 4096 ⌝ }
-    ensures { λ r. ⌜ now (s .exit) ≡ sets (now (s .entry)) at (lastBytes working time) ⌝ }
+    ensures { λ r. ⌜ now (s .exit) ≡ sets (now (s .entry)) at (lastBytes working time keys) ⌝ }
 {
     bigendian::put8(s, at, recorder_byte(working));
     bigendian::put32(s, at + 1, time);
-    bigendian::put64(s, at + 5, 0);
+    bigendian::put64(s, at + 5, keys);
     bigendian::put16(s, at + 13, 0);
 }
 
@@ -123,7 +124,7 @@ pub fn put_zone(z: Zone, s: &mut [u8], at: usize)
     let v = z.movement;
     put_work(w, s, at);
     put_movement(v, s, at + 26);
-    put_last(z.recorder, z.time, s, at + 49);
+    put_last(z.recorder, z.time, key_set(v), s, at + 49);
 }
 
 pub fn put_zones(d: Desk, s: &mut [u8])

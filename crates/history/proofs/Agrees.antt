@@ -1,7 +1,7 @@
 -- The exact relation between a zone's state and its history: work, what is open, the movement, what
 -- is cleared, each as document 01's history has it. A public law: the theorem, and later ones on
 -- zones and journals, stand on it.
-use mathlib.Core.Bool.{Bool, true, false, _||_, and-true, and-false, or-false, true≢false}
+use mathlib.Core.Bool.{Bool, true, false, _||_, and-true, and-false, true≢false}
 use mathlib.Core.List.{List, []}
 use mathlib.Core.Path.{_≡_, refl, sym, ap, _∙_}
 use Prim.Native.Nat.{ℕ, _<_}
@@ -21,7 +21,8 @@ use Rattle.zone.specs.Movement.{clearedSet}
 use Rattle.history.specs.Since.{Since, never, since, afterLast, any}
 use Rattle.history.specs.History.{is, clears, ends, leaves, asking, agreement, askedIn}
 use Rattle.history.specs.History.{underAgreedWork, opened, openToWork, standing, clearsWell}
-use Rattle.history.proofs.Append.{_then_, extend, any-more}
+use Rattle.history.specs.History.{keyFor}
+use Rattle.history.proofs.Append.{_then_, extend, any-kept}
 use Rattle.history.proofs.More.{asking-on, askedIn-on, agreement-on, under-on, open-on}
 use Rattle.history.proofs.More.{standing-on}
 
@@ -45,6 +46,7 @@ pub record Stands (st : Station) (H : List Message) (p : Passage) : Type 0 where
   pub route : asked .d0 ≡ p .route
   pub cleared : (t : ℕ) → any (clears t) rest ≡ has (p .cleared) t
   pub efficient : (t : ℕ) → any (clearsWell st asked t) rest ≡ has (p .efficient) t
+  pub keys : (t : ℕ) → any (keyFor asked t) rest ≡ has (p .keys) t
 
 abbrev pub MovementAgrees : Station → List Message → Movement → Type 0
 MovementAgrees st H NoMovement = standing H ≡ never
@@ -144,7 +146,7 @@ open-kept H m c t =
 
 -- the kinds that the history's words on movements look at
 abbrev pub touchesMovement : ℕ → Bool
-touchesMovement k = eqb k 5 || eqb k 6 || eqb k 8 || eqb k 9
+touchesMovement k = eqb k 5 || eqb k 6 || eqb k 8 || eqb k 9 || eqb k 13
 
 -- a message that does nothing to the movement
 pub record NotMovement (m : Message) : Type 0 where
@@ -152,10 +154,12 @@ pub record NotMovement (m : Message) : Type 0 where
   pub six : is 6 m ≡ false
   pub eight : is 8 m ≡ false
   pub nine : is 9 m ≡ false
+  pub thirteen : is 13 m ≡ false
 
 pub not-movement : (m : Message) (k : ℕ) → m .kind ≡ k → touchesMovement k ≡ false → NotMovement m
 not-movement m k e calm =
-    let to-8 = neither (eqb k 5 || eqb k 6 || eqb k 8) (eqb k 9) calm in
+    let to-9 = neither (eqb k 5 || eqb k 6 || eqb k 8 || eqb k 9) (eqb k 13) calm in
+    let to-8 = neither (eqb k 5 || eqb k 6 || eqb k 8) (eqb k 9) (to-9 .0) in
     let to-6 = neither (eqb k 5 || eqb k 6) (eqb k 8) (to-8 .0) in
     let first = neither (eqb k 5) (eqb k 6) (to-6 .0) in
     record {
@@ -163,6 +167,7 @@ not-movement m k e calm =
       six = is-kind m k 6 e ∙ first .1;
       eight = is-kind m k 8 e ∙ to-6 .1;
       nine = is-kind m k 9 e ∙ to-8 .1;
+      thirteen = is-kind m k 13 e ∙ to-9 .1;
     }
 
 stays : (m : Message) → NotMovement m → leaves m ≡ false
@@ -179,16 +184,10 @@ movement-kept st H m (Standing p) c a = record {
   stands = standing-on H m (c .five) (stays m c) ∙ ap (λ (s : Since). extend s m) (a .stands);
   train = a .train;
   route = a .route;
-  cleared =
-      λ t. any-more (clears t) (a .rest) m ∙ rw (
-        c .six,
-        or-false (any (clears t) (a .rest)),
-      ) (a .cleared t);
+  cleared = λ t. any-kept (clears t) (a .rest) m (rw (c .six)) ∙ a .cleared t;
   efficient =
-      λ t. any-more (clearsWell st (a .asked) t) (a .rest) m ∙ rw (
-        c .six,
-        or-false (any (clearsWell st (a .asked) t) (a .rest)),
-      ) (a .efficient t);
+      λ t. any-kept (clearsWell st (a .asked) t) (a .rest) m (rw (c .six)) ∙ a .efficient t;
+  keys = λ t. any-kept (keyFor (a .asked) t) (a .rest) m (rw (c .thirteen)) ∙ a .keys t;
 }
 
 pub no-member : (t : ℕ) → has 0 t ≡ true → ⊥

@@ -61,6 +61,12 @@ any-more p [] m = or-false (p m)
 any-more p (x ∷ H) m =
     ap (λ (b : Bool). p x || b) (any-more p H m) ∙ sym (or-assoc (p x) (any p H) (p m))
 
+-- one more message that does not pass the test
+pub any-kept :
+    (p : Message → Bool) (H : List Message) (m : Message) → p m ≡ false →
+    any p (H then m) ≡ any p H
+any-kept p H m other = any-more p H m ∙ rw other (or-false (any p H))
+
 pub then-more :
     (p q : Message → Bool) (H : List Message) (m : Message) →
     anyThenNone p q (H then m) ≡ (p m || anyThenNone p q H && not (q m))

@@ -18,12 +18,12 @@ use Rattle.zone.proofs.EachTrain.{found-under, found}
 use Rattle.rules.specs.declared.Concerned.{Concerned}
 use Rattle.rules.specs.Routes.{concerned}
 use Rattle.rules.specs.Kinds.{first, row, rows, noKind, row1, row2, row3, row4, row5, row6, row7}
-use Rattle.rules.specs.Kinds.{row8, row9, row10, checksOf, zoneAfter, workAfter, moved}
+use Rattle.rules.specs.Kinds.{row8, row9, row10, row13, checksOf, zoneAfter, workAfter, moved}
 use Rattle.history.proofs.Append.{_then_}
-use Rattle.history.proofs.Checks.{passed, clearance-turnout}
+use Rattle.history.proofs.Checks.{passed, clearance-turnout, key-turnout}
 use Rattle.history.proofs.Agrees.{Agrees}
 use Rattle.history.proofs.Steps.{step1, step2, step3, step4, step5, step6, step7, step8}
-use Rattle.history.proofs.Steps.{step9, step10, step11, step12}
+use Rattle.history.proofs.Steps.{step9, step10, step11, step12, step13}
 
 module _ (st : Station) (n : ℕ) (H : List Message) (m : Message) (z : Zone) where
   -- after a message of kind k that passed its checks
@@ -42,7 +42,7 @@ module _ (st : Station) (n : ℕ) (H : List Message) (m : Message) (z : Zone) wh
       routes : Concerned
       routes = concerned st z m
 
-      -- kinds 6 to 9: the movement is the message's train's
+      -- kinds 6 to 9 and 13: the movement is the message's train's
       its :
           not (isStanding (movementUnder z (m .id))) ≡ false →
           underTrain (z .movement) (m .id) ≡ true
@@ -92,6 +92,13 @@ module _ (st : Station) (n : ℕ) (H : List Message) (m : Message) (z : Zone) wh
           step10 st n H m (z .work) (z .movement) e (c .1 .1 .0) a)
           also (λ e none. step11 st n H m (z .work) (z .movement) e a)
           also (λ e none. step12 st n H m (z .work) (z .movement) e a)
+          also (λ e none.
+          let c = passed (row13 st routes z m) refl none in
+          let turnout = key-turnout m e rules in
+          rw (
+            found z (m .id) (its (c .0)),
+            its (c .0),
+          ) (step13 st n H m (z .work) (z .movement) e turnout (its (c .0)) a))
           also tt)
           (λ k past e none.
           let eleven : _≡_ {A = ℕ} 11 0 = rw (List·getD-eq-default rows noKind past) at none in

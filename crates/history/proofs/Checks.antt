@@ -1,5 +1,5 @@
--- What an accepted message tells: each check of its row failed; a clearance names a turnout below
--- 64.
+-- What an accepted message tells: each check of its row failed; a clearance and a key name a
+-- turnout below 64.
 use mathlib.Core.Bool.{Bool, true, false, cond, not, _&&_, and-eq-true-iff, true≢false}
 use mathlib.Core.List.{List, [], _∷_}
 use mathlib.Core.Path.{_≡_, refl, sym, _∙_}
@@ -9,7 +9,7 @@ use borrow.Author.Tests.{eq-eqb, leb-true, not-true}
 use lib.Dec.{eqb, leb}
 use Rattle.message.specs.declared.Message.{Message}
 use Rattle.message.specs.Fields.{fieldNumber, fieldsKept, idKept, isKind, named, namedKept, setKept}
-use Rattle.message.specs.Fields.{detailsKept, clearanceSpans, details, inSpan, _to_}
+use Rattle.message.specs.Fields.{Span, detailsKept, details, inSpan, _to_}
 use Rattle.rules.specs.Kinds.{Check, _gives_, first}
 
 -- the test of each check is false
@@ -41,19 +41,30 @@ kept m zero = go (isKind (m .kind)) (fieldsKept m) zero
     go true false e = absurd (omega arith)
     go false fields e = absurd (omega arith)
 
--- "d0 turnout 0-63"
-pub clearance-turnout : (m : Message) → m .kind ≡ 6 → fieldNumber m ≡ 0 → m .d0 < 64
-unfolding fieldsKept named
-clearance-turnout m six zero =
+-- a kind that names no set, and of the details first a turnout, "d0 turnout 0-63"
+first-turnout :
+    (m : Message) (k : ℕ) (later : List Span) → m .kind ≡ k
+    → named k ≡ record { a = false; b = false; spans = (0 to 63) ∷ later } → fieldNumber m ≡ 0
+    → m .d0 < 64
+unfolding fieldsKept
+first-turnout m k later e names zero =
     let id-kept = idKept (m .kind) (m .id) in
     let all = and-eq-true-iff id-kept (namedKept (named (m .kind)) m) .0 (kept m zero) .1 in
-    let row : namedKept (named 6) m ≡ true = rw six at all in
+    let row : namedKept (record { a = false; b = false; spans = (0 to 63) ∷ later }) m ≡ true =
+    rw (e, names) at all in
     let sets = setKept false (m .a) && setKept false (m .b) in
-    let spans = and-eq-true-iff sets (detailsKept clearanceSpans (details m)) .0 row .1 in
-    let later =
-    detailsKept ((1 to 9) ∷ (0 to 1) ∷ (0 to 2) ∷ (1 to 2) ∷ (0 to 1) ∷ [])
-    (m .d1 ∷ m .d2 ∷ m .d3 ∷ m .d4 ∷ m .d5 ∷ []) in
-    let turnout = and-eq-true-iff (inSpan (0 to 63) (m .d0)) later .0 spans .0 in
+    let spans = and-eq-true-iff sets (detailsKept ((0 to 63) ∷ later) (details m)) .0 row .1 in
+    let others = detailsKept later (m .d1 ∷ m .d2 ∷ m .d3 ∷ m .d4 ∷ m .d5 ∷ []) in
+    let turnout = and-eq-true-iff (inSpan (0 to 63) (m .d0)) others .0 spans .0 in
     let most : m .d0 ≤ 63 =
     leb-true (m .d0) 63 (and-eq-true-iff (leb 0 (m .d0)) (leb (m .d0) 63) .0 turnout .1) in
     omega arith
+
+pub clearance-turnout : (m : Message) → m .kind ≡ 6 → fieldNumber m ≡ 0 → m .d0 < 64
+unfolding named
+clearance-turnout m six =
+    first-turnout m 6 ((1 to 9) ∷ (0 to 1) ∷ (0 to 2) ∷ (1 to 2) ∷ (0 to 1) ∷ []) six refl
+
+pub key-turnout : (m : Message) → m .kind ≡ 13 → fieldNumber m ≡ 0 → m .d0 < 64
+unfolding named
+key-turnout m thirteen = first-turnout m 13 ((1 to 2) ∷ []) thirteen refl

@@ -29,6 +29,7 @@ by-train st H zone f rest c =
       stands = rw same stands;
       lacking-of = λ t. rw same (c .lacking-of t);
       cleared-well = λ t. rw same (c .cleared-well t);
+      keys-used = λ t. rw same (c .keys-used t);
     }
 
 pub exact :

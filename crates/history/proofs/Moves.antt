@@ -15,14 +15,17 @@ use Rattle.station.specs.declared.Route.{Route}
 use Rattle.station.specs.Station.{theRoute, hasPartner}
 use Rattle.zone.specs.declared.Movement.{Movement}
 use Rattle.zone.specs.declared.Movement.the-variants.{NoMovement, Standing}
-use Rattle.zone.specs.Movement.{underTrain, routeFor, movementFor, clearedAt, orderedAs}
+use Rattle.zone.specs.declared.Passage.{Passage}
+use Rattle.zone.specs.Movement.{underTrain, routeFor, movementFor, clearedAt, keyedAt, orderedAs}
 use Rattle.rules.specs.Clearance.{isEfficient, clearanceFits}
 use Rattle.rules.proofs.Fits.{fits-position, fits-ends, covers-both}
-use Rattle.history.specs.Since.{Since, any}
-use Rattle.history.specs.History.{is, clears, leaves, allEfficient, clearsWell}
-use Rattle.history.proofs.Append.{_then_, extend, any-more}
+use Rattle.history.specs.Since.{Since, since, any}
+use Rattle.history.specs.History.{is, clears, leaves, standing, allEfficient, clearsWell}
+use Rattle.history.specs.History.{keyFor}
+use Rattle.history.proofs.Append.{_then_, extend, any-more, any-kept}
 use Rattle.history.proofs.More.{standing-asked, standing-left, standing-on}
-use Rattle.history.proofs.Agrees.{MovementAgrees, is-kind, not-movement, movement-kept}
+use Rattle.history.proofs.Agrees.{Stands, MovementAgrees, is-kind, not-movement}
+use Rattle.history.proofs.Agrees.{movement-kept}
 
 eqb-sym : (x y : ℕ) → eqb x y ≡ eqb y x
 eqb-sym x y = go (eqb x y) refl
@@ -65,6 +68,7 @@ module _ (st : Station) (L : List Message) (m : Message) where
     route = refl;
     cleared = λ t. sym (has-zero t);
     efficient = λ t. sym (has-zero t);
+    keys = λ t. sym (has-zero t);
   }
 
   -- 8, 9
@@ -89,7 +93,46 @@ module _ (st : Station) (L : List Message) (m : Message) where
         route = a .route;
         cleared = a .cleared;
         efficient = a .efficient;
+        keys = a .keys;
       }
+
+  -- 6, 13: the movement that stands stays, and the message is of its train
+  still-stands :
+      (k : ℕ) {p : Passage} → m .kind ≡ k → eqb k 5 ≡ false → (eqb k 8 || eqb k 9) ≡ false →
+      (a : Stands st L p) → standing (L then m) ≡ since (a .asked) (a .rest then m)
+  still-stands k e five leaves a =
+      standing-on L m (is-kind m k 5 e ∙ five) (rw (is-kind m k 8 e, is-kind m k 9 e) leaves)
+      ∙ ap (λ (x : Since). extend x m) (a .stands)
+
+  of-its-train :
+      {p : Passage} (a : Stands st L p) → underTrain (Standing p) (m .id) ≡ true →
+      m .id ≡ a .asked .id
+  of-its-train {p = p} a train = sym (a .train ∙ eqb-true (p .train) (m .id) train)
+
+  -- 13
+  pub keyed-agrees :
+      (v : Movement) → m .kind ≡ 13 → m .d0 < 64 → underTrain v (m .id) ≡ true
+      → MovementAgrees st L v → MovementAgrees st (L then m) (keyedAt v (m .d0))
+  keyed-agrees NoMovement e below train a = absurd (true≢false (sym train))
+  keyed-agrees (Standing p) e below train a = record {
+    asked = a .asked;
+    rest = a .rest then m;
+    stands = still-stands 13 e refl refl a;
+    train = a .train;
+    route = a .route;
+    cleared = λ t. any-kept (clears t) (a .rest) m (rw (is-kind m 13 6 e)) ∙ a .cleared t;
+    efficient =
+        λ t. any-kept (clearsWell st (a .asked) t) (a .rest) m (rw (is-kind m 13 6 e))
+        ∙ a .efficient t;
+    keys = λ t. any-more (keyFor (a .asked) t) (a .rest) m
+        ∙ ap₂ (λ (o b : Bool). o || b) (a .keys t) (keyed-alone t)
+        ∙ sym (has-or (p .keys) (single (m .d0)) t);
+  }
+    where
+      keyed-alone : (t : ℕ) → keyFor (a .asked) t m ≡ has (single (m .d0)) t
+      keyed-alone t =
+          rw (is-kind m 13 13 e, eq-eqb (m .id) (a .asked .id) (of-its-train a train))
+          (and-true (eqb (m .d0) t) ∙ sym (alone (m .d0) t below))
 
   -- 6
   pub cleared-agrees :
@@ -101,9 +144,7 @@ module _ (st : Station) (L : List Message) (m : Message) where
   cleared-agrees (Standing p) e below train fits a = record {
     asked = a .asked;
     rest = a .rest then m;
-    stands =
-        standing-on L m (is-kind m 6 5 e) (rw (is-kind m 6 8 e, is-kind m 6 9 e))
-        ∙ ap (λ (x : Since). extend x m) (a .stands);
+    stands = still-stands 6 e refl refl a;
     train = a .train;
     route = a .route;
     cleared = λ t. any-more (clears t) (a .rest) m
@@ -112,6 +153,8 @@ module _ (st : Station) (L : List Message) (m : Message) where
     efficient = λ t. any-more (clearsWell st (a .asked) t) (a .rest) m
         ∙ ap₂ (λ (o b : Bool). o || b) (a .efficient t) (well t (eqb (m .d0) t) refl)
         ∙ sym (has-or (p .efficient) (cond (isEfficient (m .d1)) (single (m .d0)) 0) t);
+    keys =
+        λ t. any-kept (keyFor (a .asked) t) (a .rest) m (rw (is-kind m 6 13 e)) ∙ a .keys t;
   }
     where
       clears-alone : (t : ℕ) → clears t m ≡ has (single (m .d0)) t
@@ -120,10 +163,7 @@ module _ (st : Station) (L : List Message) (m : Message) where
       fit : clearanceFits st (theRoute st (p .route)) m ≡ true
       fit = not-false (clearanceFits st (theRoute st (p .route)) m) fits
 
-      -- the clearance is for this train, in the route's position
-      this-train : m .id ≡ a .asked .id
-      this-train = sym (a .train ∙ eqb-true (p .train) (m .id) train)
-
+      -- the clearance is in the route's position
       position : eqb (m .d2) (cond (has (theRoute st (a .asked .d0) .reverse) (m .d0)) 1 0) ≡ true
       position = rw (a .route) (fits-position st (theRoute st (p .route)) m fit)
 
@@ -137,8 +177,9 @@ module _ (st : Station) (L : List Message) (m : Message) where
       well t true q =
           let eff = isEfficient (m .d1) in
           let itself = eq-eqb (m .d0) (m .d0) refl in
+          let this-train = eq-eqb (m .id) (a .asked .id) (of-its-train a train) in
           let here : clearsWell st (a .asked) (m .d0) m ≡ eff =
-          rw (is-kind m 6 6 e, itself, eq-eqb (m .id) (a .asked .id) this-train, position)
+          rw (is-kind m 6 6 e, itself, this-train, position)
           (efficient-alike st (theRoute st (p .route)) m fit) in
           subst (λ (x : ℕ). clearsWell st (a .asked) x m ≡ has (cond eff (single (m .d0)) 0) x)
           (eqb-true (m .d0) t q)

@@ -16,7 +16,7 @@ use Rattle.zone.specs.declared.Movement.the-variants.{NoMovement, Standing}
 use Rattle.zone.specs.Work.{hasWork, isAgreed, underForm, workSet, agreedSet, openSet, askedFor}
 use Rattle.zone.specs.Work.{agreedFrom, openedTo, shutTo, restoredOf}
 use Rattle.zone.specs.Movement.{underTrain, clearedSet, namedTurnouts, workedTurnouts, routeFor}
-use Rattle.zone.specs.Movement.{movementFor, clearedAt, orderedAs}
+use Rattle.zone.specs.Movement.{movementFor, clearedAt, keyedAt, orderedAs}
 use Rattle.rules.specs.Clearance.{isEfficient, clearanceFits}
 use Rattle.rules.specs.Tests.{badRequest, badDetection}
 use Rattle.history.specs.History.{opened}
@@ -24,7 +24,7 @@ use Rattle.history.proofs.Append.{_then_}
 use Rattle.history.proofs.Works as works
 use Rattle.history.proofs.Works.{shut-open, agreed-in, left-in}
 use Rattle.history.proofs.Moves.{alone, asked-agrees, left-agrees, ordered-agrees}
-use Rattle.history.proofs.Moves.{cleared-agrees}
+use Rattle.history.proofs.Moves.{cleared-agrees, keyed-agrees}
 use Rattle.history.proofs.Agrees.{InZone, MovementAgrees, Works, Agrees, is-kind, NotWork}
 use Rattle.history.proofs.Agrees.{not-work, NotMovement, not-movement, movement-kept}
 use Rattle.history.proofs.Agrees.{no-member}
@@ -61,6 +61,13 @@ same-cleared :
     has (clearedSet v) t ≡ true
 same-cleared t NoMovement order h = h
 same-cleared t (Standing p) order h = h
+
+-- a key clears nothing
+keyed-cleared :
+    (t : ℕ) (v : Movement) (n : ℕ) → has (clearedSet (keyedAt v n)) t ≡ true →
+    has (clearedSet v) t ≡ true
+keyed-cleared t NoMovement n h = h
+keyed-cleared t (Standing p) n h = h
 
 module _ (st : Station) (n : ℕ) (H : List Message) (m : Message) where
   -- a message of work: the movement stays, and what is open now is not cleared for it
@@ -170,6 +177,14 @@ module _ (st : Station) (n : ℕ) (H : List Message) (m : Message) where
       let calm = not-work m 7 e refl in
       let ordered = ordered-agrees st H m v e (a .movement) in
       at-movement w (orderedAs v (m .d0)) calm ordered (λ t h. same-cleared t v (m .d0) h) a
+
+  pub step13 :
+      (w : Work) (v : Movement) → m .kind ≡ 13 → m .d0 < 64 → underTrain v (m .id) ≡ true
+      → Agrees st n H w v → Agrees st n (H then m) w (keyedAt v (m .d0))
+  step13 w v e below train a =
+      let calm = not-work m 13 e refl in
+      let keyed = keyed-agrees st H m v e below train (a .movement) in
+      at-movement w (keyedAt v (m .d0)) calm keyed (λ t h. keyed-cleared t v (m .d0) h) a
 
   pub step8 :
       (w : Work) (v : Movement) → m .kind ≡ 8 → Agrees st n H w v →

@@ -24,7 +24,7 @@ use Rattle.desk.specs.Desk.{freshDesk, zoneAt}
 use Rattle.desk.specs.Questions.{movementAnswered, workAnswered}
 use Rattle.history.specs.Since.{never, since, afterLast}
 use Rattle.history.specs.History.{underAgreedWork, openToWork, opened, agreement, standing}
-use Rattle.history.specs.History.{cleared, EachWorkedCleared}
+use Rattle.history.specs.History.{cleared, EachWorkedAllowsClear}
 use Rattle.history.specs.Lists.{Input, deskAfter, zoneMessages}
 use Rattle.history.specs.Demand3.{ours, Holds, Demand3}
 use Rattle.history.proofs.Agrees.{InZone, Agrees, under-is}
@@ -99,14 +99,15 @@ module _ (st : Station) (inputs : List Input) where
 
   -- the movement question
   clear : (z : ℕ) (f : Message) (rest : List Message) → standing (story z) ≡ since f rest
-      → (movementAnswered st end z (f .id) .regime ≡ Clear) ↔ EachWorkedCleared st (story z) f rest
+      → (movementAnswered st end z (f .id) .regime ≡ Clear)
+      ↔ EachWorkedAllowsClear st (story z) f rest
   unfolding movementAnswered standing afterLast
   clear z f rest stands = go (ltb z (zoneCount st)) refl
     where
       go :
           (b : Bool) → ltb z (zoneCount st) ≡ b →
           (movementAnswered st end z (f .id) .regime ≡ Clear)
-          ↔ EachWorkedCleared st (story z) f rest
+          ↔ EachWorkedAllowsClear st (story z) f rest
       go true q =
           let a = all .each z in
           let v = zoneAt end z .movement in

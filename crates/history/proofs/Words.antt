@@ -48,4 +48,16 @@ word-cases = record {
   alone = refl;
   lacks-4 = refl;
   lacks-6 = refl;
+  key-Tcl = refl;
+  key-Es = refl;
+  key-other-train = refl;
+  no-key = refl;
+  allows-key = refl;
+  allows-cleared = refl;
+  allows-not = refl;
+  lacks-no-key = refl;
+  lacks-with-key = refl;
+  keyed-open = refl;
+  keyed-not-cleared = refl;
+  keyed-passed = refl;
 }

@@ -10,68 +10,8 @@ use Rattle.station.specs.declared.Station.{Station}
 use Rattle.station.specs.Station.{emptyRoute, emptyTurnout}
 use Rattle.history.specs.Since.{never, since, any}
 use Rattle.history.specs.History.{underAgreedWork, openToWork, standing, cleared, ofItsRoute}
-use Rattle.history.specs.History.{clearsWell, lacks}
-
--- a message of zone 0 that names no set and no detail
-abbrev pub plain : ℕ → ℕ → ℕ → Message
-plain kind time id = record {
-  kind = kind;
-  zone = 0;
-  time = time;
-  id = id;
-  a = 0;
-  b = 0;
-  d0 = 0;
-  d1 = 0;
-  d2 = 0;
-  d3 = 0;
-  d4 = 0;
-  d5 = 0;
-}
-
--- with the sets a and b and the detail d0
-abbrev pub naming : ℕ → ℕ → ℕ → ℕ → ℕ → ℕ → Message
-naming kind time id a b d0 = record {
-  kind = kind;
-  zone = 0;
-  time = time;
-  id = id;
-  a = a;
-  b = b;
-  d0 = d0;
-  d1 = 0;
-  d2 = 0;
-  d3 = 0;
-  d4 = 0;
-  d5 = 0;
-}
-
--- a clearance: turnout, declaration, position, clamp, medium, and 1 where it covers both ends
-abbrev pub clearance : ℕ → ℕ → ℕ → ℕ → ℕ → ℕ → ℕ → ℕ → Message
-clearance time train turnout declaration position clamp medium both = record {
-  kind = 6;
-  zone = 0;
-  time = time;
-  id = train;
-  a = 0;
-  b = 0;
-  d0 = turnout;
-  d1 = declaration;
-  d2 = position;
-  d3 = clamp;
-  d4 = medium;
-  d5 = both;
-}
-
--- a clearance in the normal position that does not cover both ends
-abbrev pub clearing : ℕ → ℕ → ℕ → ℕ → ℕ → ℕ → Message
-clearing time train turnout declaration clamp medium =
-    clearance time train turnout declaration 0 clamp medium 0
-
--- a clearance in the normal position, without a clamp, by voice
-abbrev pub declaring : ℕ → ℕ → ℕ → ℕ → ℕ → Message
-declaring time train turnout declaration both =
-    clearance time train turnout declaration 0 0 1 both
+use Rattle.history.specs.History.{clearsWell, keyFor, allowsClear, lacks}
+use Rattle.history.specs.CaseMessages.{plain, naming, clearance, clearing, declaring, keying}
 
 -- station K's records 1, 2, 3, 4, 6, 8, 10 and 11, which are accepted
 abbrev pub acceptedK : List Message
@@ -128,6 +68,20 @@ at012 test = map test (0 ∷ 1 ∷ 2 ∷ [])
 -- whether a clearance counts for turnout t in the movement over a route
 abbrev counts : ℕ → ℕ → Message → Bool
 counts route t m = any (clearsWell twoRoutes (asked route) t) (m ∷ [])
+
+-- whether a key counts for turnout t in the movement over route 0
+abbrev keyCounts : Message → ℕ → Bool
+keyCounts m t = any (keyFor (asked 0) t) (m ∷ [])
+
+-- {2} agreed under verbal and its detection off, a movement over route 0, and a key on turnout 2
+abbrev pub keyed2 : List Message
+keyed2 =
+    naming 1 0 9 4 0 2
+    ∷ plain 2 10 9
+    ∷ naming 4 20 9 4 0 0
+    ∷ asked 0
+    ∷ keying 120 512 2 1
+    ∷ []
 
 pub record WordCases : Type 0 where
   -- each word is seen true and seen false
@@ -201,3 +155,25 @@ pub record WordCases : Type 0 where
   pub lacks-6 :
       at012 (lacks twoRoutes upTo6 (asked 0) (clearing 115 512 0 3 0 1 ∷ []))
       ≡ false ∷ false ∷ false ∷ []
+  -- a key counts for its train and its turnout alone, whichever key it is
+  pub key-Tcl : at012 (keyCounts (keying 120 512 2 1)) ≡ false ∷ false ∷ true ∷ []
+  pub key-Es : at012 (keyCounts (keying 120 512 2 2)) ≡ false ∷ false ∷ true ∷ []
+  pub key-other-train : at012 (keyCounts (keying 120 513 2 1)) ≡ false ∷ false ∷ false ∷ []
+  pub no-key : at012 (keyCounts (declaring 120 512 2 1 0)) ≡ false ∷ false ∷ false ∷ []
+  -- a good clearance or a key allows clear
+  pub allows-key : allowsClear twoRoutes (asked 0) (keying 120 512 2 1 ∷ []) 2 ≡ true
+  pub allows-cleared : allowsClear twoRoutes (asked 0) (declaring 120 512 2 1 0 ∷ []) 2 ≡ true
+  pub allows-not : allowsClear twoRoutes (asked 0) (declaring 120 512 2 3 0 ∷ []) 2 ≡ false
+  -- turnout 2 lacks a clearance until it has a key; with it, it is open to work and not cleared
+  pub lacks-no-key :
+      at012 (lacks twoRoutes (take 4 keyed2) (asked 0) [])
+      ≡ false ∷ false ∷ true ∷ []
+  pub lacks-with-key :
+      at012 (lacks twoRoutes keyed2 (asked 0) (keying 120 512 2 1 ∷ []))
+      ≡ false ∷ false ∷ false ∷ []
+  pub keyed-open : at012 (λ t. openToWork t keyed2) ≡ false ∷ false ∷ true ∷ []
+  pub keyed-not-cleared : at012 (λ t. cleared t keyed2) ≡ false ∷ false ∷ false ∷ []
+  -- the key of one train is none for the next
+  pub keyed-passed :
+      standing (keyed2 ++ (plain 8 130 512 ∷ naming 5 140 600 0 0 0 ∷ []))
+      ≡ since (naming 5 140 600 0 0 0) []

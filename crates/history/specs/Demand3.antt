@@ -14,7 +14,7 @@ use Rattle.desk.specs.declared.Applied.{Applied}
 use Rattle.desk.specs.Desk.{freshDesk, applied, appliedRecord}
 use Rattle.desk.specs.Questions.{movementAnswered, workAnswered}
 use Rattle.history.specs.Since.{since}
-use Rattle.history.specs.History.{openToWork, standing, cleared, EachWorkedCleared}
+use Rattle.history.specs.History.{openToWork, standing, cleared, EachWorkedAllowsClear}
 use Rattle.history.specs.Lists.{Input, message, bytes, Heard, Model, answers, kept}
 use Rattle.history.specs.Lists.{keptAnswers, deskAfter, zoneMessages}
 
@@ -37,7 +37,8 @@ ours = record {
 
 -- what holds after a list, for a desk on a station
 pub record Holds (D : Model) (st : Station) (inputs : List Input) : Type 0 where
-  -- "No turnout is both open to work and cleared for a train."
+  -- "No turnout is both open to work and cleared for a train"; document 02, M-105: "and no turnout
+  -- is cleared and open to work together"
   pub apart :
       (t z z′ : ℕ) → openToWork t (zoneMessages D st inputs z) ≡ true
       → cleared t (zoneMessages D st inputs z′) ≡ true
@@ -47,12 +48,12 @@ pub record Holds (D : Model) (st : Station) (inputs : List Input) : Type 0 where
       (t : ℕ) → (D .work st (deskAfter D st inputs) t .yes ≡ true)
       ↔ ((z : ℕ) × (openToWork t (zoneMessages D st inputs z) ≡ true))
   -- "A standing movement is answered 'signals clear' exactly when each turnout of its route under
-  -- agreed work has .. all efficient."
+  -- agreed work has .. all efficient", or, by document 02, M-105, its key
   pub clear :
       (z : ℕ) (f : Message) (rest : List Message)
       → standing (zoneMessages D st inputs z) ≡ since f rest
       → (D .movement st (deskAfter D st inputs) z (f .id) .regime ≡ Clear)
-      ↔ EachWorkedCleared st (zoneMessages D st inputs z) f rest
+      ↔ EachWorkedAllowsClear st (zoneMessages D st inputs z) f rest
   -- "Striking the refused messages from the list gives the same desk, and the messages kept get the
   -- same answers as before."
   pub same-desk : deskAfter D st (kept D st (D .fresh) inputs) ≡ deskAfter D st inputs

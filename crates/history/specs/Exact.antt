@@ -1,6 +1,7 @@
 -- What the desk keeps of a zone after a list is exactly what the history says of it: what is under
--- agreed work, open and cleared; whether a movement stands, under which train, what lacks a
--- clearance in it and what has a good one. Both questions look at nothing else.
+-- agreed work, open and cleared; whether a movement stands, under which train, what has neither a
+-- clearance nor a key in it, what has a good clearance and what a key. Both questions look at
+-- nothing else.
 use mathlib.Core.Bool.{true, false}
 use mathlib.Core.List.{List}
 use mathlib.Core.Path.{_≡_}
@@ -10,12 +11,12 @@ use Rattle.message.specs.declared.Message.{Message}
 use Rattle.station.specs.declared.Station.{Station}
 use Rattle.zone.specs.declared.Zone.{Zone}
 use Rattle.zone.specs.Work.{agreedSet, openSet}
-use Rattle.zone.specs.Movement.{isStanding, efficientSet, lacking}
+use Rattle.zone.specs.Movement.{isStanding, efficientSet, keySet, lacking}
 use Rattle.zone.specs.Trains.{movementUnder, clearedStanding}
 use Rattle.zone.specs.Zone.{workOf}
 use Rattle.history.specs.Since.{never, since, any}
 use Rattle.history.specs.History.{underAgreedWork, openToWork, standing, cleared, clearsWell}
-use Rattle.history.specs.History.{lacks}
+use Rattle.history.specs.History.{keyFor, lacks}
 
 -- the movement of the zone that f asked for, and the messages after f
 pub record ExactMovement (st : Station) (H : List Message) (zone : Zone)
@@ -26,6 +27,7 @@ pub record ExactMovement (st : Station) (H : List Message) (zone : Zone)
       lacks st H f rest t ≡ has (lacking st (workOf zone) (movementUnder zone (f .id))) t
   pub cleared-well :
       (t : ℕ) → any (clearsWell st f t) rest ≡ has (efficientSet (movementUnder zone (f .id))) t
+  pub keys-used : (t : ℕ) → any (keyFor f t) rest ≡ has (keySet (movementUnder zone (f .id))) t
 
 -- a zone and the accepted messages of it
 pub record Exact (st : Station) (H : List Message) (zone : Zone) : Type 0 where

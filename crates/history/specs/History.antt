@@ -1,6 +1,6 @@
 -- Document 01, 'History, for demand 3': "Over accepted messages of a zone, in order; a 1 or 10
--- names what its a holds, a 6 its d0." These definitions share nothing with the desk's rules but
--- set membership and the station.
+-- names what its a holds, a 6 its d0", and so does a 13 of document 02, M-105. These definitions
+-- share nothing with the desk's rules but set membership and the station.
 use mathlib.Core.Bool.{Bool, true, false, cond, not, _&&_, _||_}
 use mathlib.Core.List.{List}
 use mathlib.Core.Path.{_≡_}
@@ -106,15 +106,25 @@ clearsWell st f t m =
     && eqb (m .d2) (cond (has (theRoute st (f .d0) .reverse) t) 1 0)
     && allEfficient st t m
 
+-- document 02, M-105, a key for that train: after that 5 a 13 naming the turnout, with the same id
+abbrev pub keyFor : Message → ℕ → Message → Bool
+keyFor f t m = is 13 m && eqb (m .d0) t && eqb (m .id) (f .id)
+
+-- "either its efficient clearance or its key"
+abbrev pub allowsClear : Station → Message → List Message → ℕ → Bool
+allowsClear st f rest t = any (clearsWell st f t) rest || any (keyFor f t) rest
+
 -- "each turnout of its route under agreed work has, among the messages accepted since that movement
 -- was asked, a clearance for that train in the route's position with rods, lock and detection all
--- efficient": of a movement asked by f, the messages H of its zone and those after f
-abbrev pub EachWorkedCleared : Station → List Message → Message → List Message → Type 0
-EachWorkedCleared st H f rest =
+-- efficient", or, by document 02, M-105, its key: of a movement asked by f, the messages H of its
+-- zone and those after f
+abbrev pub EachWorkedAllowsClear : Station → List Message → Message → List Message → Type 0
+EachWorkedAllowsClear st H f rest =
     (t : ℕ) → ofItsRoute st f t ≡ true → underAgreedWork t H ≡ true
-    → any (clearsWell st f t) rest ≡ true
+    → allowsClear st f rest t ≡ true
 
--- a turnout of its route under agreed work that has no clearance at all since that movement was
--- asked
+-- a turnout of its route under agreed work that has no clearance at all and no key since that
+-- movement was asked
 abbrev pub lacks : Station → List Message → Message → List Message → ℕ → Bool
-lacks st H f rest t = ofItsRoute st f t && underAgreedWork t H && not (any (clears t) rest)
+lacks st H f rest t =
+    ofItsRoute st f t && underAgreedWork t H && not (any (clears t) rest || any (keyFor f t) rest)

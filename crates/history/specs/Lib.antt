@@ -3,4 +3,5 @@ pub mod History
 pub mod Lists
 pub mod Demand3
 pub mod Exact
+pub mod CaseMessages
 pub mod Cases

@@ -6,6 +6,7 @@ use super::ALREADY_THERE;
 use super::BAD_TURNOUTS;
 use super::CLEARANCE_DOES_NOT_FIT;
 use super::FORBIDDEN;
+use super::KEY_DOES_NOT_FIT;
 use super::MOVEMENT_IN_THE_WAY;
 use super::NOT_UNDER_THIS_ID;
 use super::WRONG_MEDIUM;
@@ -89,7 +90,7 @@ pub fn clearance(st: Station, routes: Concerned, z: Zone, m: Message) -> u8
     let medium = first_code(!medium_fits(z.recorder, m.d4), WRONG_MEDIUM, 0);
     let fit = first_code(rules::misfit(st, r, m), CLEARANCE_DOES_NOT_FIT, medium);
     let turnout = first_code(rules::not_worked(r, w, m.d0), BAD_TURNOUTS, fit);
-    let again = first_code(rules::is_cleared(v, m.d0), ALREADY_THERE, turnout);
+    let again = first_code(rules::has_already(v, m.d0), ALREADY_THERE, turnout);
     first_code(rules::no_movement_under(z, m), NOT_UNDER_THIS_ID, again)
 }
 
@@ -137,4 +138,19 @@ pub fn all_restored(st: Station, routes: Concerned, z: Zone, m: Message) -> u8
     let way = first_code(rules::names_of(st, z, work_set(w)), MOVEMENT_IN_THE_WAY, 0);
     let stage = first_code(!is_agreed(w), WRONG_STAGE, way);
     first_code(rules::no_work_under(z, m), NOT_UNDER_THIS_ID, stage)
+}
+
+pub fn key_used(st: Station, routes: Concerned, z: Zone, m: Message) -> u8
+    ensures { λ r. ⌜ r ≡ first (row 13 st routes z m) ⌝ }
+{
+    let w = work_of(z);
+    let v = movement_under(z, m.id);
+    let fit = first_code(
+        rules::key_misfit(routes.its, m.d0, m.d1),
+        KEY_DOES_NOT_FIT,
+        0,
+    );
+    let turnout = first_code(rules::not_worked(routes.its, w, m.d0), BAD_TURNOUTS, fit);
+    let again = first_code(rules::has_already(v, m.d0), ALREADY_THERE, turnout);
+    first_code(rules::no_movement_under(z, m), NOT_UNDER_THIS_ID, again)
 }

@@ -1,5 +1,5 @@
-// The twelve kinds of message over one zone (document 01's table of kinds): each is its checks, in the written order,
-// and its effect. The rules are in the crate `rules`, specs/Kinds.antt.
+// The thirteen kinds of message over one zone (document 01's table of kinds; document 02's key used): each is its
+// checks, in the written order, and its effect. The rules are in the crate `rules`, specs/Kinds.antt.
 ghost use mathlib.Core.Path.{_≡_};
 ghost use Rattle.rules.specs.Kinds.{answered, heardOn};
 
@@ -16,6 +16,7 @@ use zone::Work;
 use zone::Zone;
 use zone::at_time;
 use zone::movements::cleared_at;
+use zone::movements::keyed_at;
 use zone::movements::movement_for;
 use zone::movements::ordered_as;
 use zone::refused_in;
@@ -51,6 +52,8 @@ pub const CLEARANCE_DOES_NOT_FIT: u8 = 20;
 pub const WRONG_MEDIUM: u8 = 21;
 
 pub const FORBIDDEN: u8 = 22;
+
+pub const KEY_DOES_NOT_FIT: u8 = 23;
 
 fn work_asked(st: Station, routes: Concerned, z: Zone, m: Message) -> Answer
     ensures { λ r. ⌜ r ≡ answered 1 st routes z m ⌝ }
@@ -152,6 +155,14 @@ fn recorder(st: Station, routes: Concerned, z: Zone, m: Message) -> Answer
     }
 }
 
+fn key_used(st: Station, routes: Concerned, z: Zone, m: Message) -> Answer
+    ensures { λ r. ⌜ r ≡ answered 13 st routes z m ⌝ }
+{
+    let v = movement_under(z, m.id);
+    let next = at_time(changed_under(z, m.id, keyed_at(v, m.d0)), m.time);
+    settle(z, codes::key_used(st, routes, z, m), 0, next)
+}
+
 // A message heard by its zone once 14 is past: the checks and the effect of its kind.
 fn hear_kind(st: Station, routes: Concerned, z: Zone, m: Message) -> Answer
     ensures { λ r. ⌜ r ≡ answered (m .kind) st routes z m ⌝ }
@@ -170,6 +181,7 @@ fn hear_kind(st: Station, routes: Concerned, z: Zone, m: Message) -> Answer
         message::PART_RESTORED => part_restored(st, routes, z, m),
         message::ALL_RESTORED => all_restored(st, routes, z, m),
         message::RECORDER => recorder(st, routes, z, m),
+        message::KEY_USED => key_used(st, routes, z, m),
         _ => refused_in(z, message::BAD_KIND),
     }
 }

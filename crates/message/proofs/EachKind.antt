@@ -1,4 +1,4 @@
--- A case principle over the kinds: what holds at each number up to 12, and from 13 on, holds at
+-- A case principle over the kinds: what holds at each number up to 13, and from 14 on, holds at
 -- every number.
 use mathlib.Core.List.{List, [], _∷_}
 use mathlib.Core.Path.{_≡_}
@@ -21,12 +21,12 @@ each-below (suc n) P each past zero = each .0
 each-below (suc n) P each past (suc k) =
     each-below n (λ j. P (suc j)) (each .1) (λ j after. past (suc j) (omega arith)) k
 
--- P at 0 and at each of the twelve kinds, a line each
+-- P at 0 and at each of the thirteen kinds, a line each
 abbrev pub EachKind : (ℕ → Type 0) → Type 0
-EachKind P = EachBelow 13 P
+EachKind P = EachBelow 14 P
 
-pub each-kind : (P : ℕ → Type 0) → EachKind P → ((k : ℕ) → 13 ≤ k → P k) → (k : ℕ) → P k
-each-kind P = each-below 13 P
+pub each-kind : (P : ℕ → Type 0) → EachKind P → ((k : ℕ) → 14 ≤ k → P k) → (k : ℕ) → P k
+each-kind P = each-below 14 P
 
 -- k is none of the given numbers; a match's last arm has this of the arms before it, the last of
 -- them first

@@ -8,7 +8,7 @@ use Rattle.message.proofs.EachKind.{_also_, each-kind, NoneOf}
 
 -- the kinds that name something, the last first
 abbrev pub naming : List ℕ
-naming = 12 ∷ 10 ∷ 7 ∷ 6 ∷ 5 ∷ 4 ∷ 1 ∷ []
+naming = 13 ∷ 12 ∷ 10 ∷ 7 ∷ 6 ∷ 5 ∷ 4 ∷ 1 ∷ []
 
 -- every other number names nothing
 pub names-nothing : (k : ℕ) → NoneOf k naming → named k ≡ nothing
@@ -16,17 +16,18 @@ unfolding named
 names-nothing =
     each-kind (λ k. NoneOf k naming → named k ≡ nothing)
     ((λ n. refl)
+    also (λ n. absurd (n .0 .0 .0 .0 .0 .0 .0 .1 refl))
+    also (λ n. refl)
+    also (λ n. refl)
     also (λ n. absurd (n .0 .0 .0 .0 .0 .0 .1 refl))
-    also (λ n. refl)
-    also (λ n. refl)
     also (λ n. absurd (n .0 .0 .0 .0 .0 .1 refl))
     also (λ n. absurd (n .0 .0 .0 .0 .1 refl))
     also (λ n. absurd (n .0 .0 .0 .1 refl))
+    also (λ n. refl)
+    also (λ n. refl)
     also (λ n. absurd (n .0 .0 .1 refl))
     also (λ n. refl)
-    also (λ n. refl)
     also (λ n. absurd (n .0 .1 refl))
-    also (λ n. refl)
     also (λ n. absurd (n .1 refl))
     also tt)
     (λ k past n. List·getD-eq-default table nothing past)

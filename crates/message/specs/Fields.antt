@@ -36,6 +36,10 @@ nothing = record { a = false; b = false; spans = [] }
 abbrev pub clearanceSpans : List Span
 clearanceSpans = (0 to 63) ∷ (1 to 9) ∷ (0 to 1) ∷ (0 to 2) ∷ (1 to 2) ∷ (0 to 1) ∷ []
 
+-- document 02, M-105: "d0 the turnout (0 to 63), d1 is 1 for Tcl and 2 for Es"
+abbrev pub keySpans : List Span
+keySpans = (0 to 63) ∷ (1 to 2) ∷ []
+
 -- the column 'Fields', by kind; there is no kind 0
 abbrev pub table : List Named
 table =
@@ -64,6 +68,8 @@ table =
     ∷ nothing
     -- 12 recorder: "d0 0 out, 1 working"
     ∷ record { a = false; b = false; spans = (0 to 1) ∷ [] }
+    -- 13 key used
+    ∷ record { a = false; b = false; spans = keySpans }
     ∷ []
 
 unfoldable pub named : ℕ → Named
@@ -85,16 +91,17 @@ details m = m .d0 ∷ m .d1 ∷ m .d2 ∷ m .d3 ∷ m .d4 ∷ m .d5 ∷ []
 abbrev pub namedKept : Named → Message → Bool
 namedKept n m = setKept (n .a) (m .a) && setKept (n .b) (m .b) && detailsKept (n .spans) (details m)
 
--- "Id is a form number (kinds 1-4, 10, 11) or a train (5-9), not 0; for 12 it is 0."
+-- "Id is a form number (kinds 1-4, 10, 11) or a train (5-9), not 0; for 12 it is 0"; document 02,
+-- M-105, of kind 13: "id is the train"
 abbrev pub idKept : ℕ → ℕ → Bool
 idKept kind id = cond (eqb kind 12) (eqb id 0) (not (eqb id 0))
 
 unfoldable pub fieldsKept : Message → Bool
 fieldsKept m = idKept (m .kind) (m .id) && namedKept (named (m .kind)) m
 
--- "kind not 1-12"
+-- 11, "kind not 1-12", and document 02, M-105: "Kinds now run to 13"
 abbrev pub isKind : ℕ → Bool
-isKind kind = leb 1 kind && leb kind 12
+isKind kind = leb 1 kind && leb kind 13
 
 -- 11 for a kind that is none, then 13 for a field that breaks its rule; 0 for a message that a
 -- record carries

@@ -7,6 +7,7 @@ ghost use Rattle.message.specs.Fields.{
   details,
   detailsKept,
   clearanceSpans,
+  keySpans,
   setKept,
   idKept,
   named,
@@ -24,11 +25,18 @@ fn in_span(d: u8, least: u8, most: u8) -> bool
     (least <= d) & (d <= most)
 }
 
+// Whether details d2 to d5 are 0.
+fn last_details(m: Message) -> bool
+    ensures { λ r. ⌜ r ≡ detailsKept [] (m .d2 ∷ m .d3 ∷ m .d4 ∷ m .d5 ∷ []) ⌝ }
+{
+    (m.d2 == 0) & ((m.d3 == 0) & ((m.d4 == 0) & (m.d5 == 0)))
+}
+
 // Whether details d1 to d5 are 0.
 fn no_more_details(m: Message) -> bool
     ensures { λ r. ⌜ r ≡ detailsKept [] (m .d1 ∷ m .d2 ∷ m .d3 ∷ m .d4 ∷ m .d5 ∷ []) ⌝ }
 {
-    (m.d1 == 0) & ((m.d2 == 0) & ((m.d3 == 0) & ((m.d4 == 0) & (m.d5 == 0))))
+    (m.d1 == 0) & last_details(m)
 }
 
 // Whether no detail is named: each is 0.
@@ -55,6 +63,13 @@ fn clearance_details(m: Message) -> bool
                 & (in_span(m.d3, 0, 2) & (in_span(m.d4, 1, 2) & in_span(m.d5, 0, 1)))))
 }
 
+// The details of a key: turnout, Tcl or Es.
+fn key_details(m: Message) -> bool
+    ensures { λ r. ⌜ r ≡ detailsKept keySpans (details m) ⌝ }
+{
+    in_span(m.d0, 0, 63) & (in_span(m.d1, 1, 2) & last_details(m))
+}
+
 // Whether no set is named: both are empty.
 fn no_sets(m: Message) -> bool
     ensures { λ r. ⌜ r ≡ (setKept false (m .a) && setKept false (m .b)) ⌝ }
@@ -75,6 +90,7 @@ fn named_kept(m: Message) -> bool
         super::ORDERED => no_sets(m) & first_detail(m, 1, 2),
         super::PART_RESTORED => (m.b == 0) & no_details(m),
         super::RECORDER => no_sets(m) & first_detail(m, 0, 1),
+        super::KEY_USED => no_sets(m) & key_details(m),
         _ => no_sets(m) & no_details(m),
     }
 }

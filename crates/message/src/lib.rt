@@ -8,7 +8,7 @@ ghost use Rattle.message.specs.Record.{readingOf, readRecord, written};
 mod fields;
 mod layout;
 
-// The kinds of message, document 01's numbers.
+// The kinds of message, the documents' numbers.
 pub const WORK_ASKED: u8 = 1;
 
 pub const AGREED: u8 = 2;
@@ -32,6 +32,8 @@ pub const PART_RESTORED: u8 = 10;
 pub const ALL_RESTORED: u8 = 11;
 
 pub const RECORDER: u8 = 12;
+
+pub const KEY_USED: u8 = 13;
 
 // The numbers that refuse a record or a message for itself.
 pub const NOT_A_RECORD: u8 = 10;
@@ -73,7 +75,7 @@ pub fn field_code(m: Message) -> u8
     if kind < WORK_ASKED {
         return BAD_KIND;
     }
-    if RECORDER < kind {
+    if KEY_USED < kind {
         return BAD_KIND;
     }
     if fields::fields_kept(m) {

@@ -1,6 +1,6 @@
--- The twelve kinds over one zone: document 01's table of kinds, row by row. A row is the list of
--- its checks after 14, in the written order; effects are total functions of the zone and the
--- message.
+-- The thirteen kinds over one zone: document 01's table of kinds, row by row, and kind 13 of
+-- document 02, M-105. A row is the list of its checks after 14, in the written order; effects are
+-- total functions of the zone and the message.
 use mathlib.Core.Bool.{Bool, true, cond, not}
 use mathlib.Core.List.{List, [], _∷_}
 use Prim.Native.Nat.{ℕ}
@@ -17,7 +17,7 @@ use Rattle.zone.specs.declared.Answer.{Answer}
 use Rattle.durations.specs.Minutes.{minutesBetween}
 use Rattle.zone.specs.Work.{hasWork, isAgreed, manner, workSet, agreedAt}
 use Rattle.zone.specs.Work.{askedFor, agreedFrom, openedTo, shutTo, restoredOf}
-use Rattle.zone.specs.Movement.{isOrdered, movementFor, clearedAt, orderedAs}
+use Rattle.zone.specs.Movement.{isOrdered, movementFor, clearedAt, keyedAt, orderedAs}
 use Rattle.zone.specs.Trains.{noPlace, withMovement, changedUnder}
 use Rattle.zone.specs.Zone.{workOf, nextZone, refusedIn, settled}
 use Rattle.rules.specs.declared.Concerned.{Concerned}
@@ -25,7 +25,7 @@ use Rattle.rules.specs.Routes.{itsMovement, concerned}
 use Rattle.rules.specs.Clearance.{isEfficient, mediumFits}
 use Rattle.rules.specs.Tests.{noWorkUnder, noMovementUnder, badRequest, badDetection}
 use Rattle.rules.specs.Tests.{badRoute, badPart, inTheWay, clearedAmong, deviceUnderVerbal}
-use Rattle.rules.specs.Tests.{isCleared, notWorked, misfits, orderForbidden}
+use Rattle.rules.specs.Tests.{hasAlready, notWorked, misfits, keyMisfits, orderForbidden}
 
 -- a check: the number that is given where the test holds
 pub data Check : Type 0 where
@@ -74,11 +74,12 @@ abbrev pub row5 : Row
 row5 st routes z m =
     (noPlace z gives 16) ∷ (badRoute st (routes .asked) (m .zone) (m .d0) gives 17) ∷ []
 
--- 6 clearance: "15; 16 cleared already; 17 not under agreed work or not named; 20; 21"
+-- 6 clearance: "15; 16 cleared already; 17 not under agreed work or not named; 20; 21"; 16 also
+-- where a key was used
 abbrev pub row6 : Row
 row6 st routes z m =
     (noMovementUnder z m gives 15)
-    ∷ (isCleared (itsMovement z m) (m .d0) gives 16)
+    ∷ (hasAlready (itsMovement z m) (m .d0) gives 16)
     ∷ (notWorked (routes .its) (workOf z) (m .d0) gives 17)
     ∷ (misfits st (routes .its) m gives 20)
     ∷ (not (mediumFits (z .recorder) (m .d4)) gives 21)
@@ -123,7 +124,17 @@ row11 st routes z m =
 abbrev pub row12 : Row
 row12 st routes z m = []
 
--- 11, "kind not 1-12"; the desk gives it before 14, so that this row is never asked
+-- 13 key used: "It is checked like a clearance for 15, 16 and 17 .. Turned away: 23, unless ..;
+-- after 17"
+abbrev pub row13 : Row
+row13 st routes z m =
+    (noMovementUnder z m gives 15)
+    ∷ (hasAlready (itsMovement z m) (m .d0) gives 16)
+    ∷ (notWorked (routes .its) (workOf z) (m .d0) gives 17)
+    ∷ (keyMisfits (routes .its) (m .d0) (m .d1) gives 23)
+    ∷ []
+
+-- 11, no kind; the desk gives it before 14, so that this row is never asked
 abbrev pub noKind : Row
 noKind st routes z m = (true gives 11) ∷ []
 
@@ -131,12 +142,13 @@ noKind st routes z m = (true gives 11) ∷ []
 abbrev pub rows : List Row
 rows =
     noKind ∷ row1 ∷ row2 ∷ row3 ∷ row4 ∷ row5 ∷ row6
-    ∷ row7 ∷ row8 ∷ row9 ∷ row10 ∷ row11 ∷ row12 ∷ []
+    ∷ row7 ∷ row8 ∷ row9 ∷ row10 ∷ row11 ∷ row12 ∷ row13 ∷ []
 
 unfoldable pub row : ℕ → Row
 row kind = getD rows kind noKind
 
--- what each kind does to the zone's work
+-- what each kind does to the zone's work; 12 and 13 are past the table's end and keep it: with a
+-- key "the gang may go on working there"
 abbrev pub keepsWork : Work → Message → Work
 keepsWork w m = w
 
@@ -158,7 +170,8 @@ workAfter kind =
     ∷ [])
     kind keepsWork
 
--- what each kind does to the zone's movements
+-- what each kind does to the zone's movements; 8 and 9: "Keys lapse when the train passes or the
+-- movement is cancelled"
 abbrev pub keepsMovements : Zone → Message → Zone
 keepsMovements z m = z
 
@@ -175,6 +188,10 @@ moved kind =
     ∷ (λ z m. changedUnder z (m .id) (orderedAs (itsMovement z m) (m .d0)))
     ∷ (λ z m. changedUnder z (m .id) NoMovement)
     ∷ (λ z m. changedUnder z (m .id) NoMovement)
+    ∷ keepsMovements
+    ∷ keepsMovements
+    ∷ keepsMovements
+    ∷ (λ z m. changedUnder z (m .id) (keyedAt (itsMovement z m) (m .d0)))
     ∷ [])
     kind keepsMovements
 

@@ -11,12 +11,12 @@ use Rattle.zone.specs.Trains.{movementUnder}
 use Rattle.rules.specs.declared.Concerned.{Concerned}
 use Rattle.rules.specs.declared.RouteNumbers.{RouteNumbers}
 
--- the movement that a message of kinds 6 to 9 is about
+-- the movement that a message of kinds 6 to 9 or 13 is about
 abbrev pub itsMovement : Zone → Message → Movement
 itsMovement z m = movementUnder z (m .id)
 
--- the route that a message of kind 5 asks for, and the route of the movement that one of kinds 6
--- and 7 is about; no other kind looks at them
+-- the route that a message of kind 5 asks for, and the route of the movement that one of kinds 6, 7
+-- and 13 is about; no other kind looks at them
 abbrev pub concerned : Station → Zone → Message → Concerned
 concerned st z m = record { asked = theRoute st (m .d0); its = routeFor st (itsMovement z m) }
 

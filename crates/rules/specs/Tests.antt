@@ -1,4 +1,5 @@
--- The tests of document 01's table of kinds that look at more than one thing.
+-- The tests of the table of kinds that look at more than one thing: document 01's, and those of
+-- kind 13 of document 02, M-105.
 use mathlib.Core.Bool.{Bool, not, _&&_, _||_}
 use Prim.Native.Nat.{ℕ}
 use lib.Dec.{eqb, ltb}
@@ -11,17 +12,18 @@ use Rattle.zone.specs.declared.Work.{Work}
 use Rattle.zone.specs.declared.Movement.{Movement}
 use Rattle.zone.specs.declared.Zone.{Zone}
 use Rattle.zone.specs.Work.{underForm, manner}
-use Rattle.zone.specs.Movement.{isStanding, clearedSet, workedTurnouts, regimeOn, orderRefused}
+use Rattle.zone.specs.Movement.{isStanding, lackNothing, workedTurnouts, regimeOn, orderRefused}
 use Rattle.zone.specs.Trains.{namedStanding, clearedStanding}
 use Rattle.zone.specs.Zone.{workOf}
 use Rattle.rules.specs.Routes.{itsMovement}
 use Rattle.rules.specs.Clearance.{clearanceFits}
+use Rattle.rules.specs.Keys.{keyFits}
 
 -- 15: "no work or movement under this id"
 abbrev pub noWorkUnder : Zone → Message → Bool
 noWorkUnder z m = not (underForm (workOf z) (m .id))
 
--- 15 of kinds 6 to 9
+-- 15 of kinds 6 to 9 and 13
 abbrev pub noMovementUnder : Zone → Message → Bool
 noMovementUnder z m = not (isStanding (itsMovement z m))
 
@@ -45,7 +47,7 @@ badPart st set a = isEmpty a || not (within a set) || eqb a set || splits st a
 abbrev pub inTheWay : Station → Zone → ℕ → Bool
 inTheWay st z s = overlaps (namedStanding st z) s
 
--- "a cleared turnout in a or b"
+-- "a cleared turnout in a or b"; a key does not matter
 abbrev pub clearedAmong : Zone → ℕ → Bool
 clearedAmong z s = overlaps (clearedStanding z) s
 
@@ -53,9 +55,9 @@ clearedAmong z s = overlaps (clearedStanding z) s
 abbrev pub deviceUnderVerbal : Work → ℕ → Bool
 deviceUnderVerbal w b = not (isEmpty b) && eqb (manner w) 2
 
--- "cleared already"
-abbrev pub isCleared : Movement → ℕ → Bool
-isCleared v n = has (clearedSet v) n
+-- "cleared already"; document 02, M-105: "A second key or a clearance on it gets 16"
+abbrev pub hasAlready : Movement → ℕ → Bool
+hasAlready v n = has (lackNothing v) n
 
 -- "not under agreed work or not named": of turnout n, a route and the zone's work
 abbrev pub notWorked : Route → Work → ℕ → Bool
@@ -64,6 +66,10 @@ notWorked r w n = not (has (workedTurnouts r w) n)
 -- a clearance that does not fit its turnout in a route
 abbrev pub misfits : Station → Route → Message → Bool
 misfits st r m = not (clearanceFits st r m)
+
+-- a key that may not be used on turnout n of a route
+abbrev pub keyMisfits : Route → ℕ → ℕ → Bool
+keyMisfits r n key = not (keyFits r n key)
 
 -- an order that the regime on a route forbids
 abbrev pub orderForbidden : Route → Work → Movement → ℕ → Bool

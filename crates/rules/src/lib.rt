@@ -1,5 +1,6 @@
-// The tests of document 01's table of kinds that look at more than one thing. The rules are in specs/: the table of
-// kinds in Kinds.antt, its tests in Tests.antt, what makes a clearance fit in Clearance.antt.
+// The tests of the table of kinds that look at more than one thing. The rules are in specs/: the table of kinds in
+// Kinds.antt, its tests in Tests.antt, what makes a clearance fit in Clearance.antt, where a key may be used in
+// Keys.antt.
 ghost use mathlib.Core.Path.{_≡_};
 ghost use Rattle.rules.specs.Tests.{
   noWorkUnder,
@@ -11,24 +12,27 @@ ghost use Rattle.rules.specs.Tests.{
   inTheWay,
   clearedAmong,
   deviceUnderVerbal,
-  isCleared,
+  hasAlready,
   notWorked,
   misfits,
+  keyMisfits,
   orderForbidden,
 };
 
 pub mod clearances;
+pub mod keys;
 pub mod routes;
 
 use clearances::clearance_fits;
+use keys::key_fits;
 use message::Message;
 use station::Route;
 use station::Station;
 use zone::Movement;
 use zone::Work;
 use zone::Zone;
-use zone::movements::cleared_set;
 use zone::movements::is_standing;
+use zone::movements::lack_nothing;
 use zone::regimes::order_refused;
 use zone::regimes::regime;
 use zone::regimes::worked_turnouts;
@@ -119,14 +123,14 @@ pub fn device_under_verbal(w: Work, b: u64) -> bool
     !sets::is_empty(b) & (manner_of(w) == 2)
 }
 
-// 16 of a clearance: the turnout is cleared already.
-pub fn is_cleared(v: Movement, n: u8) -> bool
-    ensures { λ r. ⌜ r ≡ isCleared v n ⌝ }
+// 16 of a clearance and of a key: the turnout is cleared or has a key already.
+pub fn has_already(v: Movement, n: u8) -> bool
+    ensures { λ r. ⌜ r ≡ hasAlready v n ⌝ }
 {
-    sets::contains(cleared_set(v), n as usize)
+    sets::contains(lack_nothing(v), n as usize)
 }
 
-// 17 of a clearance: the turnout is not under agreed work or not named.
+// 17 of a clearance and of a key: the turnout is not under agreed work or not named.
 pub fn not_worked(r: Route, w: Work, n: u8) -> bool
     ensures { λ b. ⌜ b ≡ notWorked r w n ⌝ }
 {
@@ -138,6 +142,13 @@ pub fn misfit(st: Station, r: Route, m: Message) -> bool
     ensures { λ b. ⌜ b ≡ misfits st r m ⌝ }
 {
     !clearance_fits(st, r, m)
+}
+
+// 23: the key may not be used on turnout n of the route.
+pub fn key_misfit(r: Route, n: u8, key: u8) -> bool
+    ensures { λ b. ⌜ b ≡ keyMisfits r n key ⌝ }
+{
+    !key_fits(r, n, key)
 }
 
 // 22 of an order: the regime on the route forbids it.

@@ -1,7 +1,7 @@
 -- Station K's cases, in one proof: each computes.
 use mathlib.Core.Path.{refl}
-use Rattle.sets.specs.Range.{firstFrom, allFrom}
-use Rattle.sets.specs.Sets.{has, single, setOf}
+use Rattle.sets.specs.Range.{firstFrom, allFrom, countFrom}
+use Rattle.sets.specs.Sets.{has, single, setOf, count, lowest}
 use Rattle.sets.specs.Table.{valuesFrom, places}
 use Rattle.message.specs.Fields.{named, fieldsKept, fieldNumber}
 use Rattle.message.specs.Record.{decoded, headBytes, encoded, readRecord}
@@ -25,11 +25,11 @@ use Rattle.report.specs.Text.{digits, decimal, lineOf, linesFrom, textOf}
 use Rattle.history.specs.Since.{any}
 use Rattle.history.specs.Lists.{after, answers, accepted, ofZone}
 use Rattle.replay.specs.Replay.{inputsOf, storedFrom, ran, replayed}
-use Rattle.worked_cases.specs.StationK.{Cases}
+use Rattle.worked_cases.specs.Cases.{Cases}
 
 pub station-k : Cases
 unfolding readSheet headerNumber stationIn places valuesFrom judged routesJudged badTurnout badRoute
-    goodTurnout goodRoute firstFrom allFrom tied tiedWith has single
+    goodTurnout goodRoute firstFrom allFrom countFrom tied tiedWith has single count lowest
     after answers accepted ofZone reached applied appliedRecord
     readRecord decoded headBytes encoded named fieldsKept fieldNumber
     heard heardOn answered row workAfter moved movementUnder noPlace namedStanding clearedStanding
@@ -78,15 +78,36 @@ station-k = record {
   alone-covers-itself = refl;
   d5-2 = refl;
   alone-d5-2 = refl;
+  key-not-worked = refl;
+  key-Tcl = refl;
+  key-Es = refl;
+  lacking-before = refl;
+  lacking-after = refl;
+  clear-ordered = refl;
+  open-with-key = refl;
+  second-Tcl = refl;
+  second-Es = refl;
+  clearance-over-key = refl;
+  lapsed-passed = refl;
+  lapsed-cancelled = refl;
+  key-over-Es = refl;
+  key-over-Tcl = refl;
   heard-3 = refl;
   heard-6 = refl;
   heard-8 = refl;
   heard-10 = refl;
   heard-11 = refl;
+  heard-keyed = refl;
+  heard-next = refl;
   fresh-movement = refl;
   only-movement = refl;
   of-route-0 = refl;
-  not-well = refl;
+  not-allowed = refl;
   taken-for-both = refl;
   clear-for-both = refl;
+  of-route-2 = refl;
+  taken-unkept = refl;
+  held-unkept = refl;
+  taken-outlived = refl;
+  clear-outlived = refl;
 }

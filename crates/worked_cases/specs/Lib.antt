@@ -1,2 +1,3 @@
 pub mod OtherDesks
 pub mod StationK
+pub mod Cases

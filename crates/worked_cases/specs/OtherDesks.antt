@@ -1,15 +1,23 @@
 -- Desks that document 01 turns down: "one always held; one that keeps no state", the second as one
--- whose work answer does not depend on what it heard, and as one that stays fresh. And one that is
--- turned down since document 02's request M-101: it takes a clearance for one of both ends.
+-- whose work answer does not depend on what it heard, and as one that stays fresh. And those that
+-- are turned down since document 02's requests: M-101, one that takes a clearance for one of both
+-- ends; M-105, one that accepts a key and still lacks the turnout, and one whose keys outlive the
+-- train.
 use mathlib.Core.Bool.{cond, _&&_}
 use Prim.Native.Nat.{ℕ}
 use lib.Dec.{eqb}
+use lib.ListN.{set}
+use Rattle.sets.specs.Sets.{union}
 use Rattle.message.specs.declared.Message.{Message}
 use Rattle.station.specs.declared.Station.{Station}
+use Rattle.zone.specs.declared.Movement.{Movement}
+use Rattle.zone.specs.declared.Movement.the-variants.{NoMovement, Standing}
+use Rattle.zone.specs.declared.Zone.{Zone}
+use Rattle.zone.specs.Movement.{keySet}
 use Rattle.desk.specs.declared.Desk.{Desk}
 use Rattle.desk.specs.declared.MovementAnswer.{MovementAnswer}
 use Rattle.desk.specs.declared.WorkAnswer.{WorkAnswer}
-use Rattle.desk.specs.Desk.{freshDesk}
+use Rattle.desk.specs.Desk.{freshDesk, zoneAt}
 use Rattle.desk.specs.Questions.{movementAnswered, workAnswered}
 use Rattle.history.specs.Lists.{Input, message, bytes, Heard, Model}
 use Rattle.history.specs.Demand3.{hears}
@@ -76,4 +84,71 @@ takesForBoth = record {
   hear = hearsForBoth;
   movement = movementAnswered;
   work = workAnswered;
+}
+
+-- document 02, M-105: a desk that accepts keys and keeps none; a record it hears as it is
+abbrev pub hearsNoKeys : Station → Desk → Input → Heard Desk
+hearsNoKeys st d (message m) = record {
+  reply = hears st d (message m) .reply;
+  state = cond (eqb (m .kind) 13) d (hears st d (message m) .state);
+}
+hearsNoKeys st d (bytes s) = hears st d (bytes s)
+
+abbrev pub keepsNoKeys : Model
+keepsNoKeys = record {
+  State = Desk;
+  fresh = freshDesk;
+  hear = hearsNoKeys;
+  movement = movementAnswered;
+  work = workAnswered;
+}
+
+-- a desk, and every key used in zone 0, for whatever train
+pub record WithKeys : Type 0 where
+  pub desk : Desk
+  pub keys : ℕ
+
+-- a movement with further keys
+abbrev pub alsoKeyed : Movement → ℕ → Movement
+alsoKeyed NoMovement keys = NoMovement
+alsoKeyed (Standing p) keys = Standing (record {
+  train = p .train;
+  route = p .route;
+  order = p .order;
+  cleared = p .cleared;
+  efficient = p .efficient;
+  keys = union (p .keys) keys;
+})
+
+-- the desk with these keys in the movement of zone 0
+abbrev pub keysPut : WithKeys → Desk
+keysPut s =
+    let z = zoneAt (s .desk) 0 in
+    let keyed : Zone = record {
+      work = z .work;
+      movement = alsoKeyed (z .movement) (s .keys);
+      recorder = z .recorder;
+      time = z .time;
+    } in
+    record { zones = set (s .desk .zones) 0 keyed }
+
+-- a desk whose keys outlive the train: it answers the movement question with all of them
+abbrev pub gathersKeys : Station → WithKeys → Input → Heard WithKeys
+gathersKeys st s i =
+    let h = hears st (s .desk) i in
+    record {
+      reply = h .reply;
+      state = record {
+        desk = h .state;
+        keys = union (s .keys) (keySet (zoneAt (h .state) 0 .movement));
+      };
+    }
+
+abbrev pub keysOutlive : Model
+keysOutlive = record {
+  State = WithKeys;
+  fresh = record { desk = freshDesk; keys = 0 };
+  hear = gathersKeys;
+  movement = λ st s zone train. movementAnswered st (keysPut s) zone train;
+  work = λ st s t. workAnswered st (s .desk) t;
 }

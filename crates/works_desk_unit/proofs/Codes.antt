@@ -43,7 +43,7 @@ unfolding row
 rows-fit st on z m =
     each-kind (λ k. allFit (row k st on z m) ≡ true)
     (refl also refl also refl also refl also refl also refl also refl
-    also refl also refl also refl also refl also refl also refl also tt)
+    also refl also refl also refl also refl also refl also refl also refl also tt)
     (λ k past. rw (List·getD-eq-default rows noKind past))
 
 -- a message heard by its zone: 14, or the number of its row

@@ -26,7 +26,7 @@ use Rattle.zone.specs.declared.Movement.{Movement}
 use Rattle.zone.specs.declared.Movement.the-variants.{NoMovement, Standing}
 use Rattle.zone.specs.declared.Zone.{Zone}
 use Rattle.zone.specs.Work.{agreedFrom, openedTo, shutTo, restoredOf}
-use Rattle.zone.specs.Movement.{movementFor, clearedAt, orderedAs}
+use Rattle.zone.specs.Movement.{movementFor, clearedAt, keyedAt, orderedAs}
 use Rattle.rules.specs.Clearance.{isEfficient}
 use Rattle.zone.specs.Zone.{freshZone}
 use Rattle.rules.specs.Kinds.{first, row, rows, checksOf, noKind, workAfter, moved, zoneAfter}
@@ -118,6 +118,7 @@ cleared-typed (Standing p) n efficient fits = record {
   cleared = or-lt 64 (p .cleared) (single n) (fits .cleared) (single-lt n);
   efficient =
       or-lt 64 (p .efficient) (cond efficient (single n) 0) (fits .efficient) (one efficient);
+  keys = fits .keys;
 }
   where
     one : (b : Bool) → cond b (single n) 0 < 2 ^ 64
@@ -126,8 +127,21 @@ cleared-typed (Standing p) n efficient fits = record {
 
 ordered-typed : (v : Movement) (order : ℕ) → TypedMovement v → TypedMovement (orderedAs v order)
 ordered-typed NoMovement order fits = fits
-ordered-typed (Standing p) order fits =
-    record { train = fits .train; cleared = fits .cleared; efficient = fits .efficient }
+ordered-typed (Standing p) order fits = record {
+  train = fits .train;
+  cleared = fits .cleared;
+  efficient = fits .efficient;
+  keys = fits .keys;
+}
+
+keyed-typed : (v : Movement) (n : ℕ) → TypedMovement v → TypedMovement (keyedAt v n)
+keyed-typed NoMovement n fits = fits
+keyed-typed (Standing p) n fits = record {
+  train = fits .train;
+  cleared = fits .cleared;
+  efficient = fits .efficient;
+  keys = or-lt 64 (p .keys) (single n) (fits .keys) (single-lt n);
+}
 
 -- a zone after a message that passed the checks of its kind
 after-typed :
@@ -166,7 +180,7 @@ after-typed st z m told fits checks =
         also (λ none.
         let placed = movementFor (m .id) (m .d0) in
         let typed : TypedMovement placed =
-        record { train = told .id; cleared = lit< tt; efficient = lit< tt } in
+        record { train = told .id; cleared = lit< tt; efficient = lit< tt; keys = lit< tt } in
         (fits .work, every-placed TypedMovement (z .movement) placed (fits .movement) typed))
         also (λ none.
         let cleared = clearedAt its (m .d0) (isEfficient (m .d1)) in
@@ -180,6 +194,9 @@ after-typed st z m told fits checks =
         also (λ none. (restored-typed (z .work) (m .a) (fits .work), fits .movement))
         also (λ none. (no-work-typed, fits .movement))
         also (λ none. (fits .work, fits .movement))
+        also (λ none.
+        let typed = keyed-typed its (m .d0) its-typed in
+        (fits .work, becomes (keyedAt its (m .d0)) typed))
         also tt)
         (λ k past none.
         let eleven : _≡_ {A = ℕ} 11 0 = rw (List·getD-eq-default rows noKind past) at none in

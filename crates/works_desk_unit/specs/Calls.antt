@@ -12,7 +12,7 @@ use Rattle.packed.specs.Packed.{movementPacked, workPacked}
 use Rattle.packed.specs.Unpacked.{AnswerBytes}
 use Rattle.history.specs.Lists.{Input, deskAfter, zoneMessages}
 use Rattle.history.specs.Since.{since}
-use Rattle.history.specs.History.{standing, openToWork, EachWorkedCleared}
+use Rattle.history.specs.History.{standing, openToWork, EachWorkedAllowsClear}
 use Rattle.works_desk_unit.specs.Unit.{unitApplied, unitMovement, unitWork}
 use Rattle.works_desk_unit.specs.OneByOne.{unitOf, Each, IsRecord}
 
@@ -37,7 +37,7 @@ pub record CallsHold (sheet : List ℕ) (inputs : List Input) : Type 0 where
       standing (zoneMessages (unitOf sheet) st inputs z) ≡ since f rest
       → (byteOf 1
       (movementPacked (unitMovement sheet (deskAfter (unitOf sheet) st inputs) z (f .id))) ≡ 1)
-      ↔ EachWorkedCleared st (zoneMessages (unitOf sheet) st inputs z) f rest
+      ↔ EachWorkedAllowsClear st (zoneMessages (unitOf sheet) st inputs z) f rest
 
 -- after every list of records that a unit has heard one by one, on every sheet that is accepted
 abbrev pub CallsDemand3 : Type 0

@@ -44,6 +44,20 @@ abbrev pub efficientSet : Movement → ℕ
 efficientSet NoMovement = 0
 efficientSet (Standing p) = p .efficient
 
+-- the turnouts on which a release key was used for the movement
+abbrev pub keySet : Movement → ℕ
+keySet NoMovement = 0
+keySet (Standing p) = p .keys
+
+-- the turnouts that lack nothing: cleared, or, by document 02, M-105: "A turnout with a key counts
+-- as lacking nothing"
+abbrev pub lackNothing : Movement → ℕ
+lackNothing v = union (clearedSet v) (keySet v)
+
+-- the turnouts that let the signals be clear: efficient, or with a key
+abbrev pub allowClear : Movement → ℕ
+allowClear v = union (efficientSet v) (keySet v)
+
 -- the route of the movement; where none stands, one that names nothing
 abbrev pub routeFor : Station → Movement → Route
 routeFor st NoMovement = emptyRoute
@@ -62,16 +76,17 @@ namedTurnouts st v = namedBy (routeFor st v)
 abbrev pub workedTurnouts : Route → Work → ℕ
 workedTurnouts r w = bitAnd (namedBy r) (agreedSet w)
 
--- those of them that are not cleared for a movement
+-- those of them that have neither a clearance for a movement nor a key
 abbrev pub lackingOn : Route → Work → Movement → ℕ
-lackingOn r w v = without (workedTurnouts r w) (clearedSet v)
+lackingOn r w v = without (workedTurnouts r w) (lackNothing v)
 
 -- "Regime: of the route's turnouts under agreed work, held if one lacks a clearance, else clear if
--- all carry 1 or 2, else danger."
+-- all carry 1 or 2, else danger"; document 02, M-105: "'Signals clear' then means that each worked
+-- turnout of the route has either its efficient clearance or its key"
 unfoldable pub regimeOn : Route → Work → Movement → Regime
 regimeOn r w v =
     cond (not (isEmpty (lackingOn r w v))) Held
-    (cond (within (workedTurnouts r w) (efficientSet v)) Clear Danger)
+    (cond (within (workedTurnouts r w) (allowClear v)) Clear Danger)
 
 -- the same of a movement, on its own route
 abbrev pub lacking : Station → Work → Movement → ℕ
@@ -97,7 +112,14 @@ orderRefused order regime = cond (eqb order 1) (not (isClear regime)) (isHeld re
 -- 5: "movement asked"
 abbrev pub movementFor : ℕ → ℕ → Movement
 movementFor train route =
-    Standing (record { train = train; route = route; order = 0; cleared = 0; efficient = 0 })
+    Standing (record {
+      train = train;
+      route = route;
+      order = 0;
+      cleared = 0;
+      efficient = 0;
+      keys = 0;
+    })
 
 -- 6: "cleared"; efficient or not as the declaration says
 abbrev pub clearedAt : Movement → ℕ → Bool → Movement
@@ -108,6 +130,19 @@ clearedAt (Standing p) n efficient = Standing (record {
   order = p .order;
   cleared = union (p .cleared) (single n);
   efficient = union (p .efficient) (cond efficient (single n) 0);
+  keys = p .keys;
+})
+
+-- 13, document 02, M-105: "key used"; the turnout "is not cleared"
+abbrev pub keyedAt : Movement → ℕ → Movement
+keyedAt NoMovement n = NoMovement
+keyedAt (Standing p) n = Standing (record {
+  train = p .train;
+  route = p .route;
+  order = p .order;
+  cleared = p .cleared;
+  efficient = p .efficient;
+  keys = union (p .keys) (single n);
 })
 
 -- 7: "ordered"
@@ -119,4 +154,5 @@ orderedAs (Standing p) order = Standing (record {
   order = order;
   cleared = p .cleared;
   efficient = p .efficient;
+  keys = p .keys;
 })

@@ -42,7 +42,7 @@ withMovement z v = record {
 unfoldable pub changed : Movement → ℕ → Movement → Movement
 changed u train v = cond (underTrain u train) v u
 
--- 6 to 9: the zone with another movement, or none, in the place of the one under this train
+-- 6 to 9 and 13: the zone with another movement, or none, in the place of the one under this train
 abbrev pub changedUnder : Zone → ℕ → Movement → Zone
 changedUnder z train v = record {
   work = z .work;

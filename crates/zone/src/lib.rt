@@ -33,10 +33,11 @@ pub enum Work {
 }
 
 // A movement that stands: its train, its route, the order given (0 none, 1 clear, 2 danger), the turnouts cleared for
-// it and those of them whose declaration means all efficient.
+// it, those of them whose declaration means all efficient, and the turnouts on which a release key was used for it.
 pub struct Passage {
     pub cleared: u64,
     pub efficient: u64,
+    pub keys: u64,
     pub train: u32,
     pub route: u8,
     pub order: u8,

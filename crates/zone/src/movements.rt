@@ -8,11 +8,15 @@ ghost use Rattle.zone.specs.Movement.{
   isOrdered,
   clearedSet,
   efficientSet,
+  keySet,
+  lackNothing,
+  allowClear,
   routeFor,
   routeNumber,
   namedTurnouts,
   movementFor,
   clearedAt,
+  keyedAt,
   orderedAs,
 };
 ghost use mathlib.Core.Bool.{cond};
@@ -83,6 +87,30 @@ pub fn efficient_set(v: Movement) -> u64
     }
 }
 
+// The turnouts on which a release key was used for the movement.
+pub fn key_set(v: Movement) -> u64
+    ensures { λ r. ⌜ r ≡ keySet v ⌝ }
+{
+    match v {
+        Movement::NoMovement => 0,
+        Movement::Standing(p) => p.keys,
+    }
+}
+
+// The turnouts that lack nothing: cleared, or with a key.
+pub fn lack_nothing(v: Movement) -> u64
+    ensures { λ r. ⌜ r ≡ lackNothing v ⌝ }
+{
+    sets::join(cleared_set(v), key_set(v))
+}
+
+// The turnouts that let the signals be clear: efficient, or with a key.
+pub fn allow_clear(v: Movement) -> u64
+    ensures { λ r. ⌜ r ≡ allowClear v ⌝ }
+{
+    sets::join(efficient_set(v), key_set(v))
+}
+
 // The route of the movement; where none stands, one that names nothing.
 pub fn route_for(st: Station, v: Movement) -> Route
     ensures { λ r. ⌜ r ≡ routeFor st v ⌝ }
@@ -120,6 +148,7 @@ pub fn movement_for(train: u32, route: u8) -> Movement
         order: 0,
         cleared: 0,
         efficient: 0,
+        keys: 0,
     })
 }
 
@@ -145,6 +174,24 @@ pub fn cleared_at(v: Movement, n: u8, efficient: bool) -> Movement
             order: p.order,
             cleared: sets::join(p.cleared, sets::only(n as usize)),
             efficient: sets::join(p.efficient, only_if(efficient, n as usize)),
+            keys: p.keys,
+        }),
+    }
+}
+
+// The movement with a key used on turnout n.
+pub fn keyed_at(v: Movement, n: u8) -> Movement
+    ensures { λ r. ⌜ r ≡ keyedAt v n ⌝ }
+{
+    match v {
+        Movement::NoMovement => Movement::NoMovement,
+        Movement::Standing(p) => Movement::Standing(Passage {
+            train: p.train,
+            route: p.route,
+            order: p.order,
+            cleared: p.cleared,
+            efficient: p.efficient,
+            keys: sets::join(p.keys, sets::only(n as usize)),
         }),
     }
 }
@@ -161,6 +208,7 @@ pub fn ordered_as(v: Movement, order: u8) -> Movement
             order,
             cleared: p.cleared,
             efficient: p.efficient,
+            keys: p.keys,
         }),
     }
 }

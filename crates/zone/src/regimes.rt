@@ -5,8 +5,8 @@ ghost use Rattle.zone.specs.Movement.{workedTurnouts, lackingOn, regimeO
 use super::Movement;
 use super::Regime;
 use super::Work;
-use super::movements::cleared_set;
-use super::movements::efficient_set;
+use super::movements::allow_clear;
+use super::movements::lack_nothing;
 use super::works::agreed_set;
 use station::Route;
 
@@ -17,11 +17,11 @@ pub fn worked_turnouts(r: Route, w: Work) -> u64
     station::names(r) & agreed_set(w)
 }
 
-// Those of them that lack a clearance of the movement.
+// Those of them that have neither a clearance for the movement nor a key.
 pub fn lacking_clearance(r: Route, w: Work, v: Movement) -> u64
     ensures { λ s. ⌜ s ≡ lackingOn r w v ⌝ }
 {
-    sets::minus(worked_turnouts(r, w), cleared_set(v))
+    sets::minus(worked_turnouts(r, w), lack_nothing(v))
 }
 
 // The regime of the movement on the route.
@@ -29,10 +29,10 @@ pub fn regime(r: Route, w: Work, v: Movement) -> Regime
     ensures { λ g. ⌜ g ≡ regimeOn r w v ⌝ }
 {
     let worked = worked_turnouts(r, w);
-    if !sets::is_empty(sets::minus(worked, cleared_set(v))) {
+    if !sets::is_empty(sets::minus(worked, lack_nothing(v))) {
         return Regime::Held;
     }
-    if sets::is_within(worked, efficient_set(v)) {
+    if sets::is_within(worked, allow_clear(v)) {
         return Regime::Clear;
     }
     Regime::Danger

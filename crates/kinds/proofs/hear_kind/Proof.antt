@@ -42,8 +42,11 @@ returns-12 : tie.Need-returns-12
 returns-12 c = rw (c .recorder .ensures, c .before .match .keys12)
 
 returns-13 : tie.Need-returns-13
+returns-13 c = rw (c .key-used .ensures, c .before .match .keys13)
+
+returns-14 : tie.Need-returns-14
 unfolding answered
-returns-13 c =
+returns-14 c =
     let kind = c .before .before .args .m .kind in
     rw (no-kind kind (c .before .match .rest), c .refused-in .ensures)
 
@@ -51,6 +54,7 @@ pub hear-kind-spec : {M : Type 1} → statement M
 hear-kind-spec =
     tie.close
     (tie.spec
+    (λ c κs. search needs)
     (λ c κs. search needs)
     (λ c κs. search needs)
     (λ c κs. search needs)
@@ -76,4 +80,5 @@ hear-kind-spec =
     returns-10
     returns-11
     returns-12
-    returns-13)
+    returns-13
+    returns-14)

@@ -14,7 +14,7 @@ returns-2 : tie.Need-returns-2
 unfolding fieldNumber
 returns-2 c =
     let k = c .before .before .args .m .kind in
-    rw (le-leb 1 k (c .before .if1 .left), lt-leb k 12 (c .if2 .taken))
+    rw (le-leb 1 k (c .before .if1 .left), lt-leb k 13 (c .if2 .taken))
 
 returns-3 : tie.Need-returns-3
 unfolding fieldNumber
@@ -22,7 +22,7 @@ returns-3 c =
     let k = c .before .before .before .before .args .m .kind in
     rw (
       le-leb 1 k (c .before .before .before .if1 .left),
-      le-leb k 12 (c .before .before .if2 .left),
+      le-leb k 13 (c .before .before .if2 .left),
       ← c .before .fields-kept .ensures,
       c .if3 .taken,
     )
@@ -33,7 +33,7 @@ returns-4 c =
     let k = c .before .before .before .before .args .m .kind in
     rw (
       le-leb 1 k (c .before .before .before .if1 .left),
-      le-leb k 12 (c .before .before .if2 .left),
+      le-leb k 13 (c .before .before .if2 .left),
       ← c .before .fields-kept .ensures,
       c .if3 .left,
     )

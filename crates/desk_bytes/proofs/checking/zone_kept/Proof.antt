@@ -13,7 +13,7 @@ returns c =
     let byte = slice-bytes s (first .before .shared-slice-known .given) in
     rw (
       c .get16 .ensures,
-      c .before .get64 .ensures,
+      c .before .keys-kept .ensures,
       c .before .before .get8 .ensures,
       c .before .before .before .movement-kept .ensures,
       first .work-kept .ensures,

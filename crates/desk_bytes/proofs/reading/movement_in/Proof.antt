@@ -7,14 +7,15 @@ use Rattle.desk_bytes.proofs.reading.movement_in.Tie as tie
 returns : tie.Need-returns
 unfolding movementIn
 returns c =
-    let stands = c .before .before .before .before .before in
+    let stands = c .before .before .before .before .before .before in
     let first = stands .before .get8 in
     rw (
-      c .get642 .ensures,
-      c .before .get64 .ensures,
-      c .before .before .get83 .ensures,
-      c .before .before .before .get82 .ensures,
-      c .before .before .before .before .get32 .ensures,
+      c .get643 .ensures,
+      c .before .get642 .ensures,
+      c .before .before .get64 .ensures,
+      c .before .before .before .get83 .ensures,
+      c .before .before .before .before .get82 .ensures,
+      c .before .before .before .before .before .get32 .ensures,
       ← first .ensures,
       eq-eqb (first .result) 1 (stands .if1 .taken),
     )
@@ -28,6 +29,8 @@ pub movement-in-spec : {M : Type 1} → statement M
 movement-in-spec =
     tie.close
     (tie.spec
+    (λ c κs. search needs)
+    (λ c. search needs)
     (λ c κs. search needs)
     (λ c. search needs)
     (λ c κs. search needs)

@@ -4,7 +4,6 @@ use mathlib.Core.List.{[], _∷_, _++_}
 use mathlib.Core.Path.{refl, ap, _∙_}
 use Prim.Native.Nat.{ℕ, _+_}
 use native.Mathlib.Omega.{arith}
-use lib.ListN.{replicate}
 use lib.Seq.{sets}
 use Rattle.bigendian.specs.BigEndian.{beBytes}
 use Rattle.desk_bytes.specs.Encoding.{lastBytes}
@@ -24,12 +23,14 @@ returns c =
     let byte = c1 .before .recorder-byte in
     let at = a .at in
     let time = beBytes 4 (a .time) in
-    let rest = time ++ replicate 10 0 in
+    let keys = beBytes 8 (a .keys) in
+    let reserved = beBytes 2 0 in
+    let rest = time ++ (keys ++ reserved) in
     part-then (byte .result ∷ []) rest (now (a .s)) at (at + 1) refl
     (c1 .put8 .ensures)
-    (part-then time (replicate 10 0) (c1 .put8 .last .0) (at + 1) (at + 5) (omega arith)
+    (part-then time (keys ++ reserved) (c1 .put8 .last .0) (at + 1) (at + 5) (omega arith)
     (c2 .put32 .ensures)
-    (part-then (beBytes 8 0) (beBytes 2 0) (c2 .put32 .last .0) (at + 5) (at + 13) (omega arith)
+    (part-then keys reserved (c2 .put32 .last .0) (at + 5) (at + 13) (omega arith)
     (c3 .put64 .ensures)
     (c4 .put16 .ensures)))
     ∙ ap (λ (x : ℕ). sets (now (a .s)) (a .at) (x ∷ rest)) (byte .ensures)

@@ -11,7 +11,7 @@ returns c =
       c .first-code5 .ensures,
       c .before .no-movement-under .ensures,
       c .before .before .first-code4 .ensures,
-      c .before .before .before .is-cleared .ensures,
+      c .before .before .before .has-already .ensures,
       third .first-code3 .ensures,
       third .before .not-worked .ensures,
       third .before .before .first-code2 .ensures,

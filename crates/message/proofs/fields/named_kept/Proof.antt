@@ -45,15 +45,22 @@ returns-7 c =
     rw (c .before .before .match .keys7, c .before .no-sets4 .ensures, c .first-detail4 .ensures)
 
 returns-8 : tie.Need-returns-8
+unfolding named
 returns-8 c =
+    rw (c .before .before .match .keys8, c .before .no-sets5 .ensures, c .key-details .ensures)
+
+returns-9 : tie.Need-returns-9
+returns-9 c =
     let n =
     names-nothing (c .before .before .before .args .m .kind) (c .before .before .match .rest) in
-    rw (n, c .before .no-sets5 .ensures, c .no-details3 .ensures)
+    rw (n, c .before .no-sets6 .ensures, c .no-details3 .ensures)
 
 pub named-kept-spec : {M : Type 1} → statement M
 named-kept-spec =
     tie.close
     (tie.spec
+    (λ c κs. search needs)
+    (λ c κs. search needs)
     (λ c κs. search needs)
     (λ c κs. search needs)
     (λ c κs. search needs)
@@ -74,4 +81,5 @@ named-kept-spec =
     returns-5
     returns-6
     returns-7
-    returns-8)
+    returns-8
+    returns-9)

@@ -1,11 +1,11 @@
--- The tests of the rule, one for one.
-use mathlib.Core.Bool.{and-true}
+-- The second detail, then the rest.
+use borrow.Author.Needs.{needs}
 use Rattle.message.proofs.fields.no_more_details.Statement.{statement}
 use Rattle.message.proofs.fields.no_more_details.Tie as tie
 
 returns : tie.Need-returns
 returns c =
-    rw and-true
+    rw (c .last-details .ensures)
 
 pub no-more-details-spec : {M : Type 1} → statement M
-no-more-details-spec = tie.close (tie.spec returns)
+no-more-details-spec = tie.close (tie.spec (λ c κs. search needs) returns)

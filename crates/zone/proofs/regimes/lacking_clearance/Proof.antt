@@ -6,7 +6,7 @@ returns : tie.Need-returns
 returns c =
     rw (
       c .minus .ensures,
-      c .before .cleared-set .ensures,
+      c .before .lack-nothing .ensures,
       c .before .before .worked-turnouts .ensures,
     )
 

@@ -8,7 +8,7 @@ unfolding regimeOn
 returns c =
     rw (
       ← c .before .before .before .before .worked-turnouts .ensures,
-      ← c .before .before .before .cleared-set .ensures,
+      ← c .before .before .before .lack-nothing .ensures,
       ← c .before .before .minus .ensures,
       ← c .before .is-empty .ensures,
       c .if1 .taken,
@@ -19,11 +19,11 @@ unfolding regimeOn
 returns-2 c =
     rw (
       ← c .before .before .before .before .before .before .before .worked-turnouts .ensures,
-      ← c .before .before .before .before .before .before .cleared-set .ensures,
+      ← c .before .before .before .before .before .before .lack-nothing .ensures,
       ← c .before .before .before .before .before .minus .ensures,
       ← c .before .before .before .before .is-empty .ensures,
       c .before .before .before .if1 .left,
-      ← c .before .before .efficient-set .ensures,
+      ← c .before .before .allow-clear .ensures,
       ← c .before .is-within .ensures,
       c .if2 .taken,
     )
@@ -33,11 +33,11 @@ unfolding regimeOn
 returns-3 c =
     rw (
       ← c .before .before .before .before .before .before .before .worked-turnouts .ensures,
-      ← c .before .before .before .before .before .before .cleared-set .ensures,
+      ← c .before .before .before .before .before .before .lack-nothing .ensures,
       ← c .before .before .before .before .before .minus .ensures,
       ← c .before .before .before .before .is-empty .ensures,
       c .before .before .before .if1 .left,
-      ← c .before .before .efficient-set .ensures,
+      ← c .before .before .allow-clear .ensures,
       ← c .before .is-within .ensures,
       c .if2 .left,
     )

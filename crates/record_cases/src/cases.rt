@@ -69,15 +69,15 @@ const SHARED: [Case; 30] = [
     Case(D5, 255),
 ];
 
-pub const OWN_COUNT: usize = 31;
+pub const OWN_COUNT: usize = 38;
 
 // The cases of one kind: the ends of the ranges of its details and the values next to them, bad kinds, and bad fields
 // under a bad kind.
-const OWN: [OwnCase; 31] = [
+const OWN: [OwnCase; 38] = [
     OwnCase(1, D0, 2),
     OwnCase(1, D0, 3),
     OwnCase(1, KIND, 0),
-    OwnCase(1, KIND, 13),
+    OwnCase(1, KIND, 14),
     OwnCase(1, KIND, 255),
     OwnCase(5, D0, 63),
     OwnCase(5, D0, 64),
@@ -92,19 +92,26 @@ const OWN: [OwnCase; 31] = [
     OwnCase(6, D4, 3),
     OwnCase(6, D5, 2),
     OwnCase(6, KIND, 0),
-    OwnCase(6, KIND, 13),
+    OwnCase(6, KIND, 14),
     OwnCase(6, KIND, 255),
     OwnCase(7, D0, 2),
     OwnCase(7, D0, 3),
     OwnCase(12, D0, 2),
     OwnCase(12, KIND, 0),
-    OwnCase(12, KIND, 13),
+    OwnCase(12, KIND, 14),
     OwnCase(12, KIND, 255),
-    OwnCase(13, NONE, 0),
-    OwnCase(13, ID, 0),
-    OwnCase(13, A, 1),
-    OwnCase(13, D0, 255),
-    OwnCase(13, D5, 1),
+    OwnCase(13, D0, 63),
+    OwnCase(13, D0, 64),
+    OwnCase(13, D1, 2),
+    OwnCase(13, D1, 3),
+    OwnCase(13, KIND, 0),
+    OwnCase(13, KIND, 14),
+    OwnCase(13, KIND, 255),
+    OwnCase(14, NONE, 0),
+    OwnCase(14, ID, 0),
+    OwnCase(14, A, 1),
+    OwnCase(14, D0, 255),
+    OwnCase(14, D5, 1),
 ];
 
 // A case that every kind has.

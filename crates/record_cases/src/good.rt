@@ -27,7 +27,7 @@ fn b(kind: u8) -> u64 {
     0
 }
 
-// Detail d0: form M.45, route 9, turnout 17, signals clear, recorder working.
+// Detail d0: form M.45, route 9, turnout 17 of a clearance, signals clear, recorder working, turnout 17 of a key.
 fn d0(kind: u8) -> u8 {
     match kind {
         message::WORK_ASKED => 1,
@@ -35,6 +35,16 @@ fn d0(kind: u8) -> u8 {
         message::CLEARANCE => 17,
         message::ORDERED => 1,
         message::RECORDER => 1,
+        message::KEY_USED => 17,
+        _ => 0,
+    }
+}
+
+// Detail d1: declaration 4, key Tcl.
+fn d1(kind: u8) -> u8 {
+    match kind {
+        message::CLEARANCE => 4,
+        message::KEY_USED => 1,
         _ => 0,
     }
 }
@@ -47,7 +57,7 @@ fn of_clearance(kind: u8, n: u8) -> u8 {
     0
 }
 
-// The good message of a kind. A clearance has declaration 4, reverse, a clamp, by voice.
+// The good message of a kind. A clearance is in reverse, with a clamp, by voice.
 pub fn good(kind: u8) -> message::Message {
     message::Message {
         kind: kind,
@@ -57,7 +67,7 @@ pub fn good(kind: u8) -> message::Message {
         a: a(kind),
         b: b(kind),
         d0: d0(kind),
-        d1: of_clearance(kind, 4),
+        d1: d1(kind),
         d2: of_clearance(kind, 1),
         d3: of_clearance(kind, 1),
         d4: of_clearance(kind, 1),

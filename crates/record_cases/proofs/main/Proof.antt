@@ -5,10 +5,10 @@ use Rattle.record_cases.proofs.main.Statement.{statement}
 use Rattle.record_cases.proofs.main.Tie as tie
 
 abbrev Inv-loop : tie.InvT-loop
-Inv-loop t₀ kind₀ t kind = kind ≤ 14
+Inv-loop t₀ kind₀ t kind = kind ≤ 15
 
 abbrev μ-loop : tie.MeasureT-loop
-μ-loop t₀ kind₀ t kind = 14 - kind
+μ-loop t₀ kind₀ t kind = 15 - kind
 
 pub main-spec : {M : Type 1} → statement M
 main-spec =

@@ -8,7 +8,7 @@ abbrev Inv-loop : tie.InvT-loop
 Inv-loop kind n₀ i₀ n i = Unit
 
 abbrev μ-loop : tie.MeasureT-loop
-μ-loop kind n₀ i₀ n i = 31 - i
+μ-loop kind n₀ i₀ n i = 38 - i
 
 pub own-tried-spec : {M : Type 1} → statement M
 own-tried-spec =

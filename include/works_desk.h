@@ -31,7 +31,7 @@ extern "C" {
 #endif
 
 /* The version of this interface, raised when a call, a code, a packing, a field of a record or what an answer says changes. */
-#define DESK_INTERFACE_VERSION 5
+#define DESK_INTERFACE_VERSION 6
 
 /* The version of a desk's 520 bytes, their byte 0. */
 #define DESK_BYTES_VERSION 1
@@ -64,18 +64,19 @@ enum desk_number {
     DESK_E_SHEET_BUFFER = 8,   /* writing a sheet: the buffer is shorter than the sheet */
     DESK_E_PANEL_LIMITS = 9,   /* panel: more than 16 turnouts or 8 routes; panel_sheet alone gives it */
     DESK_E_RECORD_LENGTH = 10, /* a record, or the buffer for one, is not 32 bytes */
-    DESK_E_KIND = 11,          /* kind not 1 to 12 */
+    DESK_E_KIND = 11,          /* kind not 1 to 13 */
     DESK_E_ZONE = 12,          /* zone not below the station's count */
     DESK_E_FIELD = 13,         /* a field breaks its rule; writing a message that no record carries; a question about no turnout */
     DESK_E_TIME = 14,          /* time before the zone's last accepted */
     DESK_E_NO_ID = 15,         /* no work or movement under this id */
-    DESK_E_OCCUPIED = 16,      /* work, a movement or a clearance is there already */
+    DESK_E_OCCUPIED = 16,      /* work, a movement, a clearance or a release key is there already */
     DESK_E_PLACE = 17,         /* turnouts or route that the message may not name */
     DESK_E_STAGE = 18,         /* the work or the movement is at another stage */
     DESK_E_CONFLICT = 19,      /* a standing movement names a turnout of the work; a cleared turnout would be opened */
     DESK_E_CLEARANCE = 20,     /* a clearance that does not fit its turnout: position, drive, clamp or ends */
     DESK_E_MEDIUM = 21,        /* voice without a working recorder, or written with one */
     DESK_E_NOT_ALLOWED = 22,   /* not allowed under this form or this regime */
+    DESK_E_KEY = 23,           /* a release key that may not be used on that turnout: any on a run-over one, Tcl in the exit zone */
     DESK_E_NO_JOURNAL = 30,    /* no journal: its length, mark, version, count or zeros */
     DESK_E_JOURNAL_FULL = 31,  /* the journal is full: 1,024 records, or under 32 bytes left */
     DESK_E_NO_RECORD = 32,     /* record n not below the journal's count */
@@ -86,12 +87,12 @@ enum desk_number {
 
 /* Under which signals a movement may be ordered. */
 enum desk_regime_number {
-    DESK_REGIME_HELD = 0,   /* a turnout of the route under agreed work lacks a clearance; also with every refusal */
-    DESK_REGIME_CLEAR = 1,  /* all of them are declared efficient: signals clear */
-    DESK_REGIME_DANGER = 2  /* all have a clearance, not all efficient: signals at danger */
+    DESK_REGIME_HELD = 0,   /* a turnout of the route under agreed work has neither clearance nor release key; also with every refusal */
+    DESK_REGIME_CLEAR = 1,  /* each of them is declared efficient or has a key: signals clear */
+    DESK_REGIME_DANGER = 2  /* each has a clearance or a key, and one without a key is not efficient: signals at danger */
 };
 
-/* The lowest turnout where none lacks a clearance. */
+/* The lowest turnout where none lacks both a clearance and a key. */
 enum { DESK_NO_TURNOUT = 255 };
 
 /* Verdicts for works on signals. */
@@ -107,7 +108,7 @@ enum desk_signal_verdict {
 
 /*
  * A record, 32 bytes: kind (1), zone (1), time in seconds (4), id (4), set a (8), set b (8), details d0 to d5 (1 each).
- * Id is the form of the work (kinds 1 to 4, 10, 11) or the train (5 to 9), not 0; for kind 12 it is 0. What a kind does not use is 0.
+ * Id is the form of the work (kinds 1 to 4, 10, 11) or the train (5 to 9, 13), not 0; for kind 12 it is 0. What a kind does not use is 0.
  */
 enum desk_kind {
     DESK_KIND_WORK_ASKED = 1,      /* a: turnouts; d0: 1 form M.45, 2 recorded verbal */
@@ -124,7 +125,15 @@ enum desk_kind {
     DESK_KIND_CANCELLED = 9,
     DESK_KIND_PART_RESTORED = 10,  /* a: turnouts */
     DESK_KIND_ALL_RESTORED = 11,
-    DESK_KIND_RECORDER = 12        /* d0: 0 out, 1 working */
+    DESK_KIND_RECORDER = 12,       /* d0: 0 out, 1 working */
+    DESK_KIND_KEY_USED = 13        /* d0: turnout, 0 to 63; d1: 1 Tcl, 2 Es. The turnout needs no clearance for the train and stays open
+                                      to work; the key lapses when the train passes or the movement is cancelled */
+};
+
+/* The dispatcher's release keys: either may be used on a flank turnout, Es also on one in the exit zone. */
+enum desk_key {
+    DESK_KEY_TCL = 1,
+    DESK_KEY_ES = 2
 };
 
 /* The code of any packed answer. */
@@ -157,7 +166,7 @@ uint8_t desk_write_record(uint8_t kind, uint8_t zone, uint32_t time, uint32_t id
 
 /*
  * Hears every record of a journal (16 + 32 x count bytes or more), from a fresh desk, and writes an answer for each into `answers`
- * (5 x count bytes or more; those past them stay): its code (0, 11 to 22), its minutes. Minutes are those from the agreement to an
+ * (5 x count bytes or more; those past them stay): its code (0, 11 to 23), its minutes. Minutes are those from the agreement to an
  * accepted kind 11, to the nearest, an exact half minute to the even one (30 s: 0, 90 s: 2, 150 s: 2); else 0. Codes of the call: 0, the
  * sheet's, 30, 60; if it is not 0 nothing is written.
  */
@@ -175,8 +184,8 @@ static inline uint32_t desk_answer_minutes(const uint8_t *answers, size_t n)
 
 /*
  * The movement question after a journal: may this train's movement in this zone be ordered, under which signals. Codes: 0, the
- * sheet's, 30, 12, 15. Back come the code, the regime, the lowest turnout that lacks a clearance (255 for none), how many lack one;
- * with a refusal: held, 255, 0.
+ * sheet's, 30, 12, 15. Back come the code, the regime, the lowest turnout that lacks a clearance and has no key (255 for none), how many
+ * such there are; with a refusal: held, 255, 0.
  */
 uint64_t desk_movement(const uint8_t *sheet, size_t sheet_len, const uint8_t *journal, size_t journal_len, uint8_t zone,
                        uint32_t train);
@@ -241,11 +250,15 @@ uint8_t desk_journal_add(uint8_t *journal, size_t journal_len, const uint8_t *re
  *    41     8  set of those of them that were declared efficient
  *    49     1  recorder: 0 out, 1 working
  *    50     4  time of the last accepted message, in seconds
- *    54    10  0
+ *    54     8  set of the turnouts on which a release key was used for the train
+ *    62     2  0
  *
- * What a zone has not is 0: with no work all of 1 to 25, with work asked 14 to 25, with no movement 27 to 48. Bytes that break this, a
- * version or a reserved byte, or that have another stage, movement or recorder, are no desk: 61. Other damage does not show, so a
- * unit that stores its desk should guard it with a sum of its own. A fresh desk is 1, and 1 at place 49 of each zone, else 0.
+ * What a zone has not is 0: with no work all of 1 to 25, with work asked 14 to 25, with no movement 27 to 48 and 54 to 61. Bytes that
+ * break this, a version or a reserved byte, or that have another stage, movement or recorder, are no desk: 61. Other damage does not
+ * show, so a unit that stores its desk should guard it with a sum of its own. A fresh desk is 1, and 1 at place 49 of each zone, else 0.
+ *
+ * In bytes that were stored under interface versions up to 5 the place of the keys is 0: they are a desk without keys. A unit of such a
+ * version refuses bytes with keys by 61.
  */
 
 /* Writes the fresh desk (520 bytes): no work, no movement, recorders working, times 0. Codes: 0, 61. */
@@ -253,7 +266,7 @@ uint8_t unit_fresh(uint8_t *desk, size_t desk_len);
 
 /*
  * Hears a record (32 bytes). If accepted, the desk (520 bytes) is written as it then stands; if refused, it stays as it was. Codes: 0, the
- * sheet's, 61, 10 to 22, in that order. Back come the code and the minutes, as desk_replay writes them: of an accepted kind 11, else 0.
+ * sheet's, 61, 10 to 23, in that order. Back come the code and the minutes, as desk_replay writes them: of an accepted kind 11, else 0.
  * Records heard one by one from a fresh desk get the codes and minutes that desk_replay gives for their journal.
  */
 uint64_t unit_apply(const uint8_t *sheet, size_t sheet_len, uint8_t *desk, size_t desk_len, const uint8_t *record,

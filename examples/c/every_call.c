@@ -194,6 +194,38 @@ static void check_crossover(void)
                    unit_work(crossover, sizeof crossover, desk, sizeof desk, 1));
 }
 
+/* Writes the use of a release key on turnout 1 for train 512. */
+static uint8_t write_key(uint8_t key)
+{
+    return desk_write_record(DESK_KIND_KEY_USED, 0, 60, 512, 0, 0, 1, key, 0, 0, 0, 0, record, sizeof record);
+}
+
+/* The station with turnout 1 in the exit zone of the route: Tcl may not be used on it, Es may; the train then lacks nothing. */
+static void check_key(void)
+{
+    uint8_t exits[sizeof sheet];
+    memcpy(exits, sheet, sizeof sheet);
+    exits[22] = 1; /* the last byte of run over: turnout 0 */
+    exits[38] = 2; /* the last byte of exit zone: turnout 1 */
+    CHECK(unit_fresh(desk, sizeof desk), DESK_E_ACCEPTED);
+    for (size_t n = 0; n < STANDING; n++) {
+        write_message(n, sizeof record);
+        CHECK(unit_apply(exits, sizeof exits, desk, sizeof desk, record, sizeof record), DESK_E_ACCEPTED);
+    }
+    CHECK(write_key(3), DESK_E_FIELD);
+    CHECK(write_key(DESK_KEY_TCL), DESK_E_ACCEPTED);
+    CHECK(unit_apply(exits, sizeof exits, desk, sizeof desk, record, sizeof record), DESK_E_KEY);
+    check_standing(unit_movement(exits, sizeof exits, desk, sizeof desk, 0, 512),
+                   unit_work(exits, sizeof exits, desk, sizeof desk, 1));
+    CHECK(write_key(DESK_KEY_ES), DESK_E_ACCEPTED);
+    CHECK(unit_apply(exits, sizeof exits, desk, sizeof desk, record, sizeof record), DESK_E_ACCEPTED);
+    CHECK(unit_apply(exits, sizeof exits, desk, sizeof desk, record, sizeof record), DESK_E_OCCUPIED);
+    CHECK(desk_regime(unit_movement(exits, sizeof exits, desk, sizeof desk, 0, 512)), DESK_REGIME_CLEAR);
+    CHECK(desk_lowest(unit_movement(exits, sizeof exits, desk, sizeof desk, 0, 512)), DESK_NO_TURNOUT);
+    CHECK(desk_yes(unit_work(exits, sizeof exits, desk, sizeof desk, 1)), 1);
+    CHECK(desk[8 + 61], 2); /* the last byte of zone 0's keys */
+}
+
 static void check_verdict(void)
 {
     CHECK(desk_verdict(4, 0, 0), DESK_E_SIGNAL_RANGE);
@@ -264,6 +296,7 @@ int main(void)
     check_questions();
     check_unit();
     check_crossover();
+    check_key();
     check_verdict();
     check_panel();
     check_panel_limits();

@@ -1,7 +1,6 @@
 // Rows that store the fresh desk and that hear a record.
 use super::parts::DESK;
 use super::parts::ROOM;
-use super::parts::SHEET;
 use super::parts::copy;
 use super::parts::first;
 use super::parts::write_number;
@@ -71,7 +70,7 @@ pub fn record_tried(
     put_record(journal, k.value, &mut record);
     let next = put_pairs(&mut record, input, k.next);
     write_number(k.value as u64);
-    heard_by(first(sheet, SHEET), desk, DESK, &record);
+    heard_by(sheet, desk, DESK, &record);
     next
 }
 

@@ -59,6 +59,18 @@ pub fn station_k() -> Sheet {
     Sheet::new(1).crossover(0, ELECTRIC).turnout(0, HAND).route(0, &[0], &[2], &[], &[])
 }
 
+/// Electric crossovers 0-1 and 2-3, 4 by hand, 5 electric. Route 0 runs over 0 and 5, flank 2 and 3, exit zone 4; 1 is
+/// not named.
+pub fn exit_zone_station() -> Sheet {
+    Sheet::new(1).crossover(0, ELECTRIC).crossover(0, ELECTRIC).turnout(0, HAND).turnout(0, ELECTRIC).route(
+        0,
+        &[0, 5],
+        &[2, 3],
+        &[4],
+        &[],
+    )
+}
+
 /// 64 turnouts, 64 routes, 8 zones. Zone z has turnouts 8z to 8z + 7: two crossovers (the first electric, the second
 /// by hand), then four alone. Each zone has eight routes.
 pub fn largest_station() -> Sheet {
@@ -192,6 +204,11 @@ pub fn all_restored(id: u32) -> Message {
 
 pub fn recorder(working: u8) -> Message {
     message(12, 0).d(0, working)
+}
+
+/// 1 Tcl, 2 Es.
+pub fn key_used(train: u32, turnout: u8, key: u8) -> Message {
+    message(13, train).d(0, turnout).d(1, key)
 }
 
 /// The header of a journal with any count.

@@ -1,7 +1,8 @@
-//! The definitions of 01, "History, for demand 3", as plain searches over the accepted messages of one zone.
+//! The definitions of 01, "History, for demand 3", as plain searches over the accepted messages of one zone; keys are
+//! those of 02, M-105.
 
 use crate::message::Message;
-use crate::set::holds;
+use crate::set::{holds, members, only, Set};
 use crate::station::{Route, Station};
 
 /// The accepted messages of a zone, in order.
@@ -87,6 +88,26 @@ impl<'m> History<'m> {
                 && matches!(message.d[1], 1 | 2)
                 && (!has_partner || message.d[5] == 1)
         })
+    }
+
+    /// 02, M-105, a key for that train: after that 5 a 13 naming the turnout, with the same id.
+    pub fn key(&self, turnout: u8) -> bool {
+        self.standing_at().is_some_and(|asked| {
+            let mut later = self.after(asked).iter();
+            later.any(|message| message.kind == 13 && message.d[0] == turnout && message.id == self.0[asked].id)
+        })
+    }
+
+    /// Has the turnout its efficient clearance or its key? 02, M-105.
+    pub fn released(&self, station: &Station, turnout: u8) -> bool {
+        self.good_clearance(station, turnout) || self.key(turnout)
+    }
+
+    /// The turnouts of its route under agreed work that are neither cleared nor have a key.
+    pub fn lacking(&self, station: &Station) -> Set {
+        let named = self.route(station).map_or(0, Route::named);
+        let lacks = |&turnout: &u8| self.under_agreed_work(turnout) && !self.cleared(turnout) && !self.key(turnout);
+        members(named).filter(lacks).fold(0, |set, turnout| set | only(turnout))
     }
 }
 

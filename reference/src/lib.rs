@@ -7,6 +7,7 @@ pub mod crossover;
 pub mod desk;
 pub mod history;
 pub mod journal;
+pub mod keys;
 #[cfg(feature = "library")]
 pub mod library;
 pub mod message;

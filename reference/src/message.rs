@@ -1,6 +1,7 @@
 //! The message record of 32 bytes: its fields, reading, writing. 01: "Message record, 32 bytes".
 
 use crate::clearance::{Channel, Clamp, Clearance, Position};
+use crate::keys::Key;
 use crate::refusal::{refuse, Refusal};
 use crate::set::Set;
 
@@ -53,7 +54,7 @@ pub enum Aspect {
     Danger = 2,
 }
 
-/// What a message of each of the twelve kinds says, beside its zone, time and id.
+/// What a message of each of the thirteen kinds says, beside its zone, time and id.
 #[derive(Clone, Copy, Debug, PartialEq, Eq)]
 pub enum Content {
     WorkAsked { turnouts: Set, form: Form },
@@ -68,6 +69,7 @@ pub enum Content {
     PartRestored { turnouts: Set },
     AllRestored,
     Recorder { working: bool },
+    KeyUsed { turnout: u8, key: Key },
 }
 
 impl Message {
@@ -104,12 +106,13 @@ impl Message {
 
     /// The rules of kind (11), then of fields (13).
     pub fn content(&self) -> Result<Content, Refusal> {
-        refuse(!(1..=12).contains(&self.kind), Refusal::Kind)?;
+        refuse(!(1..=13).contains(&self.kind), Refusal::Kind)?;
         refuse(!self.id_fits(), Refusal::Field)?;
         self.fields().ok_or(Refusal::Field)
     }
 
-    /// 01: "Id is a form number (kinds 1-4, 10, 11) or a train (5-9), not 0; for 12 it is 0."
+    /// 01: "Id is a form number (kinds 1-4, 10, 11) or a train (5-9), not 0; for 12 it is 0." 02, M-105, kind 13:
+    /// "id is the train".
     fn id_fits(&self) -> bool {
         (self.id == 0) == (self.kind == RECORDER)
     }
@@ -156,6 +159,8 @@ impl Message {
             (11, 0, 0, [0, 0, 0, 0, 0, 0]) => Content::AllRestored,
             (RECORDER, 0, 0, [0, 0, 0, 0, 0, 0]) => Content::Recorder { working: false },
             (RECORDER, 0, 0, [1, 0, 0, 0, 0, 0]) => Content::Recorder { working: true },
+            // 02, M-105: "d0 the turnout (0 to 63), d1 is 1 for Tcl and 2 for Es".
+            (13, 0, 0, [turnout @ 0..=63, d1, 0, 0, 0, 0]) => Content::KeyUsed { turnout, key: Key::of(d1)? },
             _ => return None,
         })
     }

@@ -1,4 +1,5 @@
-//! The movement of a zone: its train and route, its order, what is cleared for it, and the regime that follows.
+//! The movement of a zone: its train and route, its order, what is cleared or released by a key for it, and the regime
+//! that follows.
 
 use crate::refusal::Refusal;
 use crate::set::Set;
@@ -15,6 +16,8 @@ pub struct Train<'s> {
     pub cleared: Set,
     /// Of those cleared, the ones declared all efficient.
     pub efficient: Set,
+    /// Those with a key. 02, M-105.
+    pub keys: Set,
 }
 
 impl Train<'_> {
@@ -22,14 +25,20 @@ impl Train<'_> {
         self.order != 0
     }
 
-    /// 01: "of the route's turnouts under agreed work, held if one lacks a clearance,
-    /// else clear if all carry 1 or 2, else danger".
+    /// The turnouts cleared or with a key: they lack nothing, and neither is given again.
+    pub fn settled(&self) -> Set {
+        self.cleared | self.keys
+    }
+
+    /// 01: "of the route's turnouts under agreed work, held if one lacks a clearance, else clear if all carry 1 or 2,
+    /// else danger". 02, M-105: "A turnout with a key counts as lacking nothing"; clear where each has "either its
+    /// efficient clearance or its key".
     pub fn standing(&self, agreed: Set) -> Standing {
         let worked = self.route.named() & agreed;
-        let lacking = worked & !self.cleared;
+        let lacking = worked & !self.settled();
         let regime = if lacking != 0 {
             Regime::Held
-        } else if worked & !self.efficient == 0 {
+        } else if worked & !(self.efficient | self.keys) == 0 {
             Regime::Clear
         } else {
             Regime::Danger
@@ -75,7 +84,7 @@ pub enum Regime {
     Danger,
 }
 
-/// The regime and the turnouts still lacking a clearance.
+/// The regime and the turnouts still lacking a clearance, without a key.
 #[derive(Clone, Copy, Debug, PartialEq, Eq)]
 pub struct Standing {
     pub regime: Regime,

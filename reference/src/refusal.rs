@@ -1,5 +1,5 @@
 //! The refusals of the desk, the journal and the verdicts. 01: "Numbers the desk returns". 7 and 8 are the writer's
-//! (02, M-100). Those of reading a sheet carry a record index and stand in `sheet`.
+//! (02, M-100), 23 is that of keys (02, M-105). Those of reading a sheet carry a record index and stand in `sheet`.
 
 #[derive(Clone, Copy, Debug, PartialEq, Eq)]
 pub enum Refusal {
@@ -20,6 +20,8 @@ pub enum Refusal {
     Unfit = 20,
     Channel = 21,
     Regime = 22,
+    /// A key that may not be used for the turnout.
+    Key = 23,
     Journal = 30,
     Full = 31,
     NoRecord = 32,

@@ -1,13 +1,14 @@
 //! A unit: a desk kept in 520 bytes, heard one record at a time. Bytes are a desk's where each field keeps its rule;
 //! they are read field by field, and not by writing the desk again.
 //!
-//! The head, 8 bytes: version 1, zeros. Then 8 zones of 64 bytes: work (26), movement (23), recorder (1), last time (4),
-//! zeros (10). What a zone has not is 0.
+//! The head, 8 bytes: version 1, zeros. Then 8 zones of 64 bytes: work (26), movement (23), recorder (1), last time
+//! (4), the movement's keys (8), zeros (2). What a zone has not is 0.
 
 use crate::desk::{Desk, ZONES};
 use crate::message::Form;
 use crate::movement::{Movement, Train};
 use crate::replay::{movement_numbers, refused_movement, work_numbers};
+use crate::set::Set;
 use crate::sheet;
 use crate::station::{Route, Station};
 use crate::work::{Work, Works};
@@ -22,6 +23,8 @@ const HEAD: usize = 8;
 const ZONE: usize = 64;
 const MOVEMENT_AT: usize = 26;
 const LAST_AT: usize = 49;
+const KEYS_AT: usize = 54;
+const RESERVED_AT: usize = 62;
 
 /// 01: "a stored route not below R names nothing".
 static NO_ROUTE: Route = Route { zone: 0, run_over: 0, flank: 0, exit_zone: 0, reverse: 0 };
@@ -32,7 +35,7 @@ pub fn encode(desk: &Desk) -> [u8; DESK] {
     bytes[0] = VERSION;
     for (part, zone) in bytes[HEAD..].chunks_exact_mut(ZONE).zip(desk.zones()) {
         put_work(part, &zone.work);
-        put_movement(&mut part[MOVEMENT_AT..], &zone.movement);
+        put_movement(part, &zone.movement);
         part[LAST_AT] = u8::from(zone.recorder_working);
         part[LAST_AT + 1..LAST_AT + 5].copy_from_slice(&zone.last.to_be_bytes());
     }
@@ -59,9 +62,12 @@ fn put_works(part: &mut [u8], stage: u8, works: &Works) {
     part[6..14].copy_from_slice(&works.turnouts.to_be_bytes());
 }
 
-/// 1, route, order, train (4 bytes), turnouts cleared (8), those of them that are efficient (8).
-fn put_movement(part: &mut [u8], movement: &Movement) {
+/// 1, route, order, train (4 bytes), turnouts cleared (8), those of them that are efficient (8); apart from them, the
+/// turnouts with a key (8).
+fn put_movement(zone: &mut [u8], movement: &Movement) {
     if let Movement::Standing(train) = movement {
+        zone[KEYS_AT..RESERVED_AT].copy_from_slice(&train.keys.to_be_bytes());
+        let part = &mut zone[MOVEMENT_AT..];
         part[0] = 1;
         part[1] = train.number;
         part[2] = train.order;
@@ -87,14 +93,14 @@ pub fn decode<'s>(station: &'s Station, bytes: &[u8]) -> Option<Desk<'s>> {
 
 fn zone_in<'s>(station: &'s Station, part: &[u8]) -> Option<Zone<'s>> {
     let work = work_in(&part[..MOVEMENT_AT])?;
-    let movement = movement_in(station, &part[MOVEMENT_AT..LAST_AT])?;
+    let movement = movement_in(station, &part[MOVEMENT_AT..LAST_AT], set(part, KEYS_AT))?;
     let recorder_working = match part[LAST_AT] {
         0 => false,
         1 => true,
         _ => return None,
     };
     let last = word(part, LAST_AT + 1);
-    is_zero(&part[LAST_AT + 5..]).then_some(Zone { work, movement, recorder_working, last })
+    is_zero(&part[RESERVED_AT..]).then_some(Zone { work, movement, recorder_working, last })
 }
 
 fn work_in(part: &[u8]) -> Option<Work> {
@@ -107,9 +113,9 @@ fn work_in(part: &[u8]) -> Option<Work> {
     }
 }
 
-fn movement_in<'s>(station: &'s Station, part: &[u8]) -> Option<Movement<'s>> {
+fn movement_in<'s>(station: &'s Station, part: &[u8], keys: Set) -> Option<Movement<'s>> {
     match part[0] {
-        0 if is_zero(&part[1..]) => Some(Movement::None),
+        0 if is_zero(&part[1..]) && keys == 0 => Some(Movement::None),
         1 => Some(Movement::Standing(Train {
             id: word(part, 3),
             number: part[1],
@@ -117,6 +123,7 @@ fn movement_in<'s>(station: &'s Station, part: &[u8]) -> Option<Movement<'s>> {
             order: part[2],
             cleared: set(part, 7),
             efficient: set(part, 15),
+            keys,
         })),
         _ => None,
     }
@@ -130,7 +137,7 @@ fn word(bytes: &[u8], at: usize) -> u32 {
     bytes[at..at + 4].iter().fold(0, |word, &byte| word << 8 | u32::from(byte))
 }
 
-fn set(bytes: &[u8], at: usize) -> u64 {
+fn set(bytes: &[u8], at: usize) -> Set {
     bytes[at..at + 8].iter().fold(0, |set, &byte| set << 8 | u64::from(byte))
 }
 

@@ -1,7 +1,8 @@
-//! What a zone holds, and the twelve kinds: checks 15 to 22 in rising number, then the effect.
+//! What a zone holds, and the thirteen kinds: checks 15 to 23 in rising number, then the effect.
 //! 01: "Each zone holds its work (none, asked or agreed), one movement, its recorder, its last accepted time."
 
 use crate::clearance::Clearance;
+use crate::keys::Key;
 use crate::message::{Aspect, Content, Form, Message};
 use crate::minutes;
 use crate::movement::{Movement, Regime, Standing, Train};
@@ -29,7 +30,7 @@ impl<'s> Zone<'s> {
         Ok(self.movement.under(train_id)?.standing(self.work.agreed_turnouts()))
     }
 
-    /// Checks 15 to 22 and the effect; returns the minutes. A refusal may leave `self` half changed:
+    /// Checks 15 to 23 and the effect; returns the minutes. A refusal may leave `self` half changed:
     /// the desk hears on a copy.
     pub fn hear(&mut self, station: &'s Station, message: &Message, content: Content) -> Result<u32, Refusal> {
         let Message { zone, time, id, .. } = *message;
@@ -46,6 +47,7 @@ impl<'s> Zone<'s> {
             Content::PartRestored { turnouts } => self.part_restored(station, id, turnouts)?,
             Content::AllRestored => return self.all_restored(id, time),
             Content::Recorder { working } => self.recorder_working = working,
+            Content::KeyUsed { turnout, key } => self.key_used(id, turnout, key)?,
         }
         // 01: "every other answer has 0".
         Ok(0)
@@ -104,18 +106,26 @@ impl<'s> Zone<'s> {
         let number = route;
         let below = station.routes.get(usize::from(number));
         let route = below.filter(|route| route.zone == zone).ok_or(Refusal::Place)?;
-        self.movement = Movement::Standing(Train { id, number, route, order: 0, cleared: 0, efficient: 0 });
+        self.movement = Movement::Standing(Train { id, number, route, order: 0, cleared: 0, efficient: 0, keys: 0 });
         Ok(())
+    }
+
+    /// The checks that a clearance and a key share, and the train that has them met: "15; 16 cleared already; 17 not
+    /// under agreed work or not named". 02, M-105: "A second key or a clearance on it gets 16."
+    fn unsettled(&self, id: u32, turnout: u8) -> Result<Train<'s>, Refusal> {
+        let train = self.movement.under(id)?;
+        refuse(holds(train.settled(), turnout), Refusal::Occupied)?;
+        let worked = holds(self.work.agreed_turnouts(), turnout);
+        let named = holds(train.route.named(), turnout);
+        refuse(!worked || !named, Refusal::Place)?;
+        Ok(train)
     }
 
     /// Kind 6: "15; 16 cleared already; 17 not under agreed work or not named; 20; 21"; "cleared, shut to work".
     fn cleared(&mut self, station: &Station, id: u32, clearance: Clearance) -> Result<(), Refusal> {
-        let mut train = self.movement.under(id)?;
         let n = clearance.turnout;
-        refuse(holds(train.cleared, n), Refusal::Occupied)?;
-        let worked = holds(self.work.agreed_turnouts(), n);
-        let named = holds(train.route.named(), n);
-        let turnout = station.turnout(n).filter(|_| worked && named).ok_or(Refusal::Place)?;
+        let mut train = self.unsettled(id, n)?;
+        let turnout = station.turnout(n).ok_or(Refusal::Place)?;
         refuse(!clearance.fits(train.route, turnout.drive, station.has_partner(n)), Refusal::Unfit)?;
         refuse(!clearance.channel_fits(self.recorder_working), Refusal::Channel)?;
         train.cleared |= only(n);
@@ -124,6 +134,16 @@ impl<'s> Zone<'s> {
         }
         self.movement = Movement::Standing(train);
         self.work.shut(only(n));
+        Ok(())
+    }
+
+    /// Kind 13. 02, M-105: "checked like a clearance for 15, 16 and 17", then 23. The turnout is not cleared, and open
+    /// to work as it was: "the gang may go on working there".
+    fn key_used(&mut self, id: u32, turnout: u8, key: Key) -> Result<(), Refusal> {
+        let mut train = self.unsettled(id, turnout)?;
+        refuse(!key.may_release(train.route, turnout), Refusal::Key)?;
+        train.keys |= only(turnout);
+        self.movement = Movement::Standing(train);
         Ok(())
     }
 
@@ -141,7 +161,7 @@ impl<'s> Zone<'s> {
         Ok(())
     }
 
-    /// Kind 8: "15; 18 not ordered"; "no movement or clearance".
+    /// Kind 8: "15; 18 not ordered"; "no movement or clearance", nor key (02, M-105).
     fn passed(&mut self, id: u32) -> Result<(), Refusal> {
         let train = self.movement.under(id)?;
         refuse(!train.ordered(), Refusal::Stage)?;
@@ -149,7 +169,7 @@ impl<'s> Zone<'s> {
         Ok(())
     }
 
-    /// Kind 9: "15; 18 ordered"; "no movement or clearance".
+    /// Kind 9: "15; 18 ordered"; "no movement or clearance", nor key (02, M-105).
     fn cancelled(&mut self, id: u32) -> Result<(), Refusal> {
         let train = self.movement.under(id)?;
         refuse(train.ordered(), Refusal::Stage)?;

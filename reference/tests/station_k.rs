@@ -286,6 +286,7 @@ fn d5_that_no_record_carries() {
         part_restored(7, &[2]),
         all_restored(7),
         recorder(1),
+        key_used(512, 2, 1),
     ];
     for other in others {
         assert!(message::read(&other.to_bytes()).is_ok());
@@ -358,7 +359,7 @@ fn history_of_the_journal() {
             let good = (0..3)
                 .filter(|&turnout| history.route(&station).is_some_and(|route| route.named() >> turnout & 1 == 1))
                 .filter(|&turnout| history.under_agreed_work(turnout))
-                .all(|turnout| history.good_clearance(&station, turnout));
+                .all(|turnout| history.released(&station, turnout));
             assert_eq!(clear, good);
         }
     }
@@ -371,7 +372,7 @@ fn refusals_of_records_and_writing() {
     assert_eq!(message::read(&good), Ok(work_asked(7, 1, &[0])));
     assert_eq!(message::read(&good[..31]), Err(Refusal::RecordLength));
     let mut bad = good;
-    bad[0] = 13;
+    bad[0] = 14;
     assert_eq!(message::read(&bad), Err(Refusal::Kind));
     let mut buffer = [9; 32];
     assert_eq!(message::write(&Message::from_bytes(&bad), &mut buffer), Err(Refusal::Field));

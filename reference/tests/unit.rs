@@ -1,13 +1,17 @@
-//! The unit: station K record by record over 520 bytes, and bytes that are no desk.
+//! The unit: station K record by record over 520 bytes, keys in them (02, M-105), and bytes that are no desk.
 
-use reference::builders::{agreed, all_restored, cleared, journal_k, station_k};
+use reference::builders::*;
 use reference::desk::Desk;
 use reference::sheet;
 use reference::station::Station;
 use reference::unit::{self, DESK};
 
 fn station() -> Station {
-    sheet::read(&station_k().bytes()).expect("station K reads")
+    read(&station_k())
+}
+
+fn read(sheet: &Sheet) -> Station {
+    sheet::read(&sheet.bytes()).expect("a good sheet")
 }
 
 fn fresh() -> [u8; DESK] {
@@ -122,9 +126,12 @@ fn no_desk() {
         changed(8 + 26, 0),
         changed(8 + 26, 2),
         changed(8 + 49, 2),
-        changed(8 + 54, 1),
+        changed(8 + 62, 1),
+        changed(8 + 63, 1),
         changed(72 + 1, 1),
         changed(72 + 48, 1),
+        changed(72 + 54, 1),
+        changed(72 + 61, 128),
     ];
     for mut bytes in no_desks {
         let before = bytes.clone();
@@ -144,4 +151,59 @@ fn order_of_refusals() {
     assert_eq!(apply(short, &mut []), 1);
     assert_eq!(apply(&good, &mut []), 61);
     assert_eq!(apply(&good, &mut fresh()), 10);
+}
+
+/// A work agreed on these turnouts, detection off, and a movement over route 0.
+fn worked(sheet: &Sheet, turnouts: &[u8]) -> [u8; DESK] {
+    let mut bytes = fresh();
+    let off = detection_off(7, turnouts, &[]);
+    for message in [work_asked(7, 1, turnouts), agreed(7), off, movement_asked(512, 0)] {
+        assert_eq!(unit::apply(&sheet.bytes(), &mut bytes, &message.to_bytes()), (0, 0));
+    }
+    bytes
+}
+
+/// 02, M-105: the keys stand in bytes 54 to 61 of the zone, and nowhere else; they go with the movement.
+#[test]
+fn keys() {
+    let sheet = exit_zone_station();
+    let mut bytes = worked(&sheet, &[0, 1, 2, 3, 4, 5]);
+    let mut expected = bytes;
+    for (turnout, key) in [(4, 2), (2, 1), (3, 2)] {
+        assert_eq!(unit::apply(&sheet.bytes(), &mut bytes, &key_used(512, turnout, key).to_bytes()), (0, 0));
+        expected[8 + 61] |= 1 << turnout;
+        assert_eq!(bytes, expected);
+    }
+    let station = read(&sheet);
+    assert_eq!(unit::encode(&unit::decode(&station, &bytes).expect("a desk's bytes")), bytes);
+    assert_eq!(unit::movement_at(&station, &bytes, 0, 512), [0, 0, 0, 2]);
+    assert_eq!(unit::apply(&sheet.bytes(), &mut bytes, &cancelled(512).to_bytes()), (0, 0));
+    assert!(bytes[8 + 26..8 + 49].iter().chain(&bytes[8 + 54..72]).all(|&byte| byte == 0));
+}
+
+/// With a movement the keys are any set, also one that no call gives.
+#[test]
+fn any_keys() {
+    let station = station();
+    let with_keys = |bytes: &[u8; DESK], keys: u64| {
+        let mut changed = *bytes;
+        changed[8 + 54..8 + 62].copy_from_slice(&keys.to_be_bytes());
+        changed
+    };
+    let standing = worked(&station_k(), &[2]);
+    for keys in [0, 1, 1 << 63, u64::MAX] {
+        let desk = unit::decode(&station, &with_keys(&standing, keys)).expect("a desk's bytes");
+        assert_eq!(unit::encode(&desk), with_keys(&standing, keys));
+    }
+    // A key and a clearance on one turnout: the key counts. It is cleared all the same.
+    let mut both = standing;
+    assert_eq!(unit::apply_at(&station, &mut both, &cleared(512, [2, 8, 0, 0, 1]).to_bytes()), (0, 0));
+    assert_eq!(unit::movement_at(&station, &both, 0, 512), [0, 2, 255, 0]);
+    both = with_keys(&both, 1 << 2);
+    assert_eq!(unit::movement_at(&station, &both, 0, 512), [0, 1, 255, 0]);
+    assert_eq!(unit::apply_at(&station, &mut both, &detection_off(7, &[2], &[]).to_bytes()), (19, 0));
+    // A key on a turnout that is not worked: 16 comes before 17.
+    let mut elsewhere = with_keys(&standing, 1 << 1);
+    assert_eq!(unit::apply_at(&station, &mut elsewhere, &key_used(512, 1, 1).to_bytes()), (16, 0));
+    assert_eq!(unit::apply_at(&station, &mut elsewhere, &key_used(512, 0, 1).to_bytes()), (17, 0));
 }

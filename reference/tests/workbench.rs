@@ -303,10 +303,10 @@ fn journal_with_both_ends() {
 
 #[test]
 fn journal_with_unreadable_records() {
-    let records = [message(13, 7), passed(0), agreed(7).a(&[63]).d(5, 9), recorder(1)].map(|record| record.to_bytes());
+    let records = [message(14, 7), passed(0), agreed(7).a(&[63]).d(5, 9), recorder(1)].map(|record| record.to_bytes());
     let shown = round_trip("unreadable", "journal", &journal_of(&records));
-    assert!(shown.contains("bytes: 0d 00 00000000 00000007 "));
-    assert!(shown.contains("# 1; does not read, 11: kind 13 is not 1 to 12\n"));
+    assert!(shown.contains("bytes: 0e 00 00000000 00000007 "));
+    assert!(shown.contains("# 1; does not read, 11: kind 14 is not 1 to 13\n"));
     assert!(shown.contains("# 2; does not read, 13: id (train) is 0\n"));
     assert!(shown.contains("# 3; does not read, 13: set a is not empty, d5 is 9, not 0\n"));
     assert!(shown.contains("\nrecorder: time 0, zone 0, working  # 4\n"));

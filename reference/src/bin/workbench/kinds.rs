@@ -1,4 +1,4 @@
-//! The twelve kinds: their names and fields by name. One table for showing a record, for reading its text back
+//! The thirteen kinds: their names and fields by name. One table for showing a record, for reading its text back
 //! and for saying why a record does not read. 01: "Message record, 32 bytes".
 
 use reference::message::Message;
@@ -28,7 +28,7 @@ const FORM: Field = Id("form");
 const TRAIN: Field = Id("train");
 
 /// Kind n at n - 1.
-pub const KINDS: [Kind; 12] = [
+pub const KINDS: [Kind; 13] = [
     Kind {
         name: "work asked",
         fields: &[FORM, SetA("turnouts"), Choice(0, &[("request M.45", 1), ("request recorded verbal", 2)])],
@@ -55,6 +55,10 @@ pub const KINDS: [Kind; 12] = [
     Kind { name: "part restored", fields: &[FORM, SetA("turnouts")] },
     Kind { name: "all restored", fields: &[FORM] },
     Kind { name: "recorder", fields: &[Choice(0, &[("out", 0), ("working", 1)])] },
+    Kind {
+        name: "key used",
+        fields: &[TRAIN, Number(0, "turnout", 0, 63), Choice(1, &[("key Tcl", 1), ("key Es", 2)])],
+    },
 ];
 
 pub fn kind(number: u8) -> Option<&'static Kind> {

@@ -143,7 +143,7 @@ pub fn record(record: &[u8], refusal: Refusal) -> String {
     let number = refusal.number();
     match <&[u8; RECORD]>::try_from(record).map(Message::from_bytes) {
         Ok(message) if refusal == Refusal::Kind => {
-            format!("does not read, {number}: kind {} is not 1 to 12", message.kind)
+            format!("does not read, {number}: kind {} is not 1 to 13", message.kind)
         }
         Ok(message) => format!("does not read, {number}: {}", words::list(&kinds::bad_fields(&message))),
         Err(_) => format!("does not read, {number}: not 32 bytes"),

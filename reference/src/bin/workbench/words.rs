@@ -1,6 +1,7 @@
 //! Words for sets, values, records, and for the checks and effects of each kind, short as in document 01's tables.
 
 use reference::clearance::{Channel, Clamp, Clearance, Position};
+use reference::keys::Key;
 use reference::message::{Aspect, Content, Form, Message};
 use reference::refusal::Refusal;
 use reference::set::{members, Set};
@@ -80,6 +81,13 @@ pub fn aspect(aspect: Aspect) -> &'static str {
     }
 }
 
+pub fn key(key: Key) -> &'static str {
+    match key {
+        Key::Tcl => "Tcl",
+        Key::Es => "Es",
+    }
+}
+
 /// 01: "Declarations 1 and 2 mean all efficient; 3, 5, 7 lack detection; 4, 6, 8, 9 lack more."
 pub fn declaration(number: u8) -> &'static str {
     match number {
@@ -113,6 +121,7 @@ pub fn said(message: &Message, content: &Content) -> String {
         Content::PartRestored { turnouts } => format!("turnouts {} of form {id} restored", set(turnouts)),
         Content::AllRestored => format!("all turnouts of form {id} restored"),
         Content::Recorder { working } => format!("recorder {}", recorder(working)),
+        Content::KeyUsed { turnout, key: used } => format!("key {} used for turnout {turnout}, train {id}", key(used)),
     }
 }
 
@@ -196,6 +205,10 @@ pub fn met(content: &Content) -> &'static str {
         }
         Content::AllRestored => "work agreed; no standing movement names a turnout of the work",
         Content::Recorder { .. } => "no check after the time",
+        Content::KeyUsed { .. } => {
+            "under agreed work, named by the route, neither cleared nor with a key; the key may be used for it \
+             (Art. 3.22)"
+        }
     }
 }
 
@@ -211,6 +224,9 @@ pub fn effect(content: &Content) -> String {
         Content::Ordered(_) => "ordered".to_string(),
         Content::Passed | Content::Cancelled => "no movement or clearance".to_string(),
         Content::PartRestored { turnouts } => format!("{} leaves the work, shut to work", set(turnouts)),
+        Content::KeyUsed { turnout, .. } => {
+            format!("turnout {turnout} lacks nothing; it is not cleared, and open or shut to work as before")
+        }
         Content::Recorder { working } => format!("recorder {}", recorder(working)),
     }
 }

@@ -1,0 +1,26 @@
+//! The dispatcher's release keys, Tcl and Es: which may be used where (23). 02, M-105.
+
+use crate::set::holds;
+use crate::station::Route;
+
+#[derive(Clone, Copy, Debug, PartialEq, Eq)]
+pub enum Key {
+    Tcl = 1,
+    Es = 2,
+}
+
+impl Key {
+    /// 02, M-105: "d1 is 1 for Tcl and 2 for Es".
+    pub fn of(number: u8) -> Option<Key> {
+        match number {
+            1 => Some(Key::Tcl),
+            2 => Some(Key::Es),
+            _ => None,
+        }
+    }
+
+    /// 02, M-105: 23 "unless the turnout is flank, or is in the exit zone and the key is Es".
+    pub fn may_release(self, route: &Route, turnout: u8) -> bool {
+        holds(route.flank, turnout) || holds(route.exit_zone, turnout) && self == Key::Es
+    }
+}

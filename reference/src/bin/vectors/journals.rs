@@ -78,7 +78,7 @@ pub fn add(cases: &mut Cases) {
     c.journal_add(10, &room(&three, 32), &[&good[..], &[0]].concat()); // record of 33 bytes
     c.journal_add(10, &[], &[]); // 10 before 30
     c.journal_add(11, &room(&three, 32), &[0; 32]); // kind 0
-    c.journal_add(11, &three[..20], &[13; 32]); // 11 before 30
+    c.journal_add(11, &three[..20], &[14; 32]); // 11 before 30
     c.journal_add(13, &room(&three, 32), &recorder(2).to_bytes()); // bad field
     c.journal_add(13, &[], &recorder(2).to_bytes()); // 13 before 30
     c.journal_add(13, &three, &agreed(0).to_bytes()); // 13 before 31

@@ -1,4 +1,4 @@
-//! Cases of the twelve kinds: every number each can be answered with, and two faults in order.
+//! Cases of kinds 1 to 12: every number each can be answered with, and two faults in order. Kind 13 stands in `keys`.
 
 use crate::cases::Cases;
 use crate::scenes::*;
@@ -74,16 +74,16 @@ pub fn add(cases: &mut Cases) {
 
 /// Zone and clock, each kind.
 fn zone_and_clock(c: &mut Cases, y: &[u8]) {
-    c.codes(&[12; 12], y, &one_of_each(&[2]).map(|message| message.in_zone(2))); // zone equal to Z
+    c.codes(&[12; 13], y, &one_of_each(&[2]).map(|message| message.in_zone(2))); // zone equal to Z
     let early = one_of_each(&[2]).map(|message| message.at(9));
-    let early_codes = |accepted: usize| [vec![0; accepted], vec![14; 12]].concat();
+    let early_codes = |accepted: usize| [vec![0; accepted], vec![14; 13]].concat();
     c.codes(&early_codes(1), y, &then(vec![recorder(1).at(10)], &early)); // 14, before 15 to 18 on an empty zone
     let busy = then(work_and_train(M45, &[2], 0), &[recorder(1).at(10)]);
-    c.codes(&early_codes(4), y, &then(busy, &early)); // 14, before 16 to 22 on a zone at work
+    c.codes(&early_codes(4), y, &then(busy, &early)); // 14, before 16 to 23 on a zone at work
     c.list(12, y, &[recorder(0).in_zone(255)]); // zone 255
-    c.codes(&[15; 9], y, &one_of_each(&[2]).into_iter().filter(needs_an_id).collect::<Vec<_>>()); // 15 on a fresh desk
+    c.codes(&[15; 10], y, &one_of_each(&[2]).into_iter().filter(needs_an_id).collect::<Vec<_>>()); // 15 on a fresh desk
     c.list(13, y, &[recorder(2).in_zone(2)]); // 13 before 12
-    c.list(11, y, &[message(13, 0).in_zone(2)]); // 11 before 13 and 12
+    c.list(11, y, &[message(14, 0).in_zone(2)]); // 11 before 13 and 12
     c.list(0, y, &[recorder(1).at(10), recorder(1).in_zone(1).at(5)]); // each zone has its own clock
     c.list(14, y, &[recorder(1).at(u32::MAX), recorder(1).at(u32::MAX - 1)]); // at the largest time
     c.list(0, y, &[recorder(1).at(u32::MAX), recorder(1).at(u32::MAX)]); // equal to it

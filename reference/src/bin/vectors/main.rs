@@ -6,6 +6,7 @@ mod cases;
 mod copies;
 mod crossovers;
 mod journals;
+mod keys;
 mod kinds;
 mod lists;
 mod minutes;
@@ -19,7 +20,7 @@ use cases::Cases;
 use std::path::Path;
 use std::{env, fs, process};
 
-const CASES_LIMIT: usize = 262_144;
+const CASES_LIMIT: usize = 294_912;
 const STDOUT_LIMIT: usize = 65_536;
 
 fn main() {
@@ -39,6 +40,7 @@ fn main() {
     panels::add(&mut cases);
     minutes::add(&mut cases);
     crossovers::add(&mut cases);
+    keys::add(&mut cases);
     println!("{} cases, {} bytes; stdout {} bytes", cases.count, cases.bytes.len(), cases.stdout.len());
     assert!(cases.bytes.len() <= CASES_LIMIT && cases.stdout.len() <= STDOUT_LIMIT);
     let write = |name: &str, bytes: &[u8]| fs::write(Path::new(&folder).join(name), bytes);

@@ -1,4 +1,4 @@
-//! Cases of the message record: each field rule of each kind, and writing into buffers.
+//! Cases of the message record: each field rule of kinds 1 to 12, and writing into buffers. Kind 13 stands in `keys`.
 
 use crate::cases::Cases;
 use reference::builders::*;
@@ -82,8 +82,8 @@ pub fn add(cases: &mut Cases) {
     c.record(10, &good(2).to_bytes()[..31]); // 31 bytes
     c.record(10, &[&good(2).to_bytes()[..], &[0]].concat()); // 33 bytes
     c.record(10, &[255; 31]); // length before kind and fields
-    for kind in [0, 13, 128, 255] {
-        c.record(11, &Message { kind, ..good(2) }.to_bytes()); // none of the twelve
+    for kind in [0, 14, 128, 255] {
+        c.record(11, &Message { kind, ..good(2) }.to_bytes()); // none of the thirteen
     }
     c.record(11, &[0; 32]); // kind before id
     c.record(11, &[255; 32]); // kind before fields
@@ -98,10 +98,10 @@ pub fn add(cases: &mut Cases) {
     c.write(10, &good(2), &[0xAA; 33]); // 33 bytes
     c.write(10, &good(2), &[0xAA; 64]); // 64 bytes
     c.write(10, &good(2).d(0, 1), &[0xAA; 31]); // 10 before 13
-    c.write(10, &message(13, 1), &[0xAA; 33]); // 10 before a bad kind
+    c.write(10, &message(14, 1), &[0xAA; 33]); // 10 before a bad kind
     c.write(13, &good(2).d(0, 1), &[0xAA; 32]); // a bad detail
     c.write(13, &message(0, 1), &[0xAA; 32]); // kind 0 is 13 when written
-    c.write(13, &message(13, 1), &[0xAA; 32]); // kind 13
+    c.write(13, &message(14, 1), &[0xAA; 32]); // kind 14
     c.write(13, &message(1, 0).d(0, 1), &[0xAA; 32]); // id 0
     c.write(13, &message(12, 1), &[0xAA; 32]); // id with the recorder
     c.write(13, &good(6).d(1, 10), &[0xAA; 32]); // declaration 10

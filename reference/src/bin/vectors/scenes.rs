@@ -32,7 +32,7 @@ pub fn then(mut list: Vec<Message>, more: &[Message]) -> Vec<Message> {
 }
 
 /// One message of each kind whose fields are good; work on these turnouts.
-pub fn one_of_each(turnouts: &[u8]) -> [Message; 12] {
+pub fn one_of_each(turnouts: &[u8]) -> [Message; 13] {
     [
         work_asked(FORM, M45, turnouts),
         agreed(FORM),
@@ -46,5 +46,6 @@ pub fn one_of_each(turnouts: &[u8]) -> [Message; 12] {
         part_restored(FORM, &[2]),
         all_restored(FORM),
         recorder(1),
+        key_used(TRAIN, 2, 1),
     ]
 }

@@ -83,6 +83,7 @@ impl Comparison {
         }
         self.tally.lists += 1;
         self.tally.ends.left(&desk);
+        self.tally.keys.left();
         let records: Vec<[u8; RECORD]> = heard.iter().map(|(record, _)| *record).collect();
         let mut journal = journal_of(&records);
         let tail = self.rng.pick(&[0, 0, 1, 31, 32, 50]);
@@ -200,7 +201,7 @@ impl Comparison {
         }
         let read = records.iter().filter_map(|record| message::read(record).ok());
         let mut trains: BTreeSet<u32> =
-            read.filter(|message| (5..=9).contains(&message.kind)).map(|message| message.id).collect();
+            read.filter(|message| matches!(message.kind, 5..=9 | 13)).map(|message| message.id).collect();
         trains.insert(NO_TRAIN);
         for zone in 0..=8 {
             for &train in &trains {

@@ -1,5 +1,5 @@
 //! Demand 3 on this implementation's own history: its four sentences, after a list. 'All efficient' is that of
-//! 02, M-101.
+//! 02, M-101, 'signals clear' that of 02, M-105.
 
 use reference::desk::Desk;
 use reference::history::History;
@@ -41,12 +41,18 @@ fn zone_sentences(history: History, desk: &Desk, zone: u8) -> Result<(), String>
     let (Some(asked), Some(route)) = (history.standing(), history.route(station)) else {
         return Ok(());
     };
-    let clear = desk.movement_question(zone, asked.id).map(|answer| answer.regime == Regime::Clear);
+    let answer = desk.movement_question(zone, asked.id);
+    let clear = answer.map(|answer| answer.regime == Regime::Clear);
     let good = members(route.named())
         .filter(|&turnout| history.under_agreed_work(turnout))
-        .all(|turnout| history.good_clearance(station, turnout));
+        .all(|turnout| history.released(station, turnout));
     if clear != Ok(good) {
         return Err(format!("sentence 3: zone {zone}, train {}: {clear:?}, by the history {good}", asked.id));
+    }
+    let lacking = history.lacking(station);
+    let stated = (members(lacking).next(), members(lacking).count());
+    if answer.map(|answer| (answer.lowest, usize::from(answer.count))) != Ok(stated) {
+        return Err(format!("lacking: zone {zone}, train {}: {answer:?}, by the history {stated:?}", asked.id));
     }
     Ok(())
 }

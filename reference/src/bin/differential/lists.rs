@@ -129,7 +129,7 @@ impl Place<'_, '_> {
 
     /// A message of any kind that reads (a clearance's d5 may be 2), whatever the state.
     fn untimely(&self, rng: &mut Rng) -> Message {
-        let kind = rng.within(1..=12) as u8;
+        let kind = rng.within(1..=13) as u8;
         let form = match self.state.work {
             Work::Asked(works) | Work::Agreed { works, .. } if rng.chance(90) => works.id,
             _ => rng.pick(&self.talk.forms),
@@ -139,7 +139,7 @@ impl Place<'_, '_> {
             _ => rng.pick(&self.talk.trains),
         };
         let id = match kind {
-            5..=9 => train,
+            5..=9 | 13 => train,
             12 => 0,
             _ => form,
         };
@@ -158,6 +158,7 @@ impl Place<'_, '_> {
                 any_clearance(rng, base.d(0, turnout))
             }
             7 => base.d(0, rng.pick(&[1, 2])),
+            13 => base.d(0, self.any_turnout(rng)).d(1, rng.pick(&[1, 2])),
             12 => base.d(0, rng.pick(&[0, 1])),
             _ => base,
         }

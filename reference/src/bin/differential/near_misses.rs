@@ -9,6 +9,9 @@ pub fn near_miss(rng: &mut Rng, message: Message, last: u32) -> Message {
     if message.kind == 6 && rng.chance(50) {
         return other_clearance(rng, message);
     }
+    if message.kind == 13 && rng.chance(50) {
+        return other_key(rng, message);
+    }
     let bit = only(rng.within(0..=63) as u8);
     match rng.within(0..=16) {
         0 => message.at(last.saturating_sub(1)),
@@ -27,7 +30,7 @@ pub fn near_miss(rng: &mut Rng, message: Message, last: u32) -> Message {
         13 => message.d(rng.index(6), rng.byte()),
         14 => message.d(rng.index(5), rng.within(0..=2) as u8),
         15 => message.d(5, rng.pick(&[1, 1, 2])),
-        _ => Message { kind: rng.within(0..=14) as u8, ..message },
+        _ => Message { kind: rng.within(0..=15) as u8, ..message },
     }
 }
 
@@ -40,5 +43,18 @@ fn other_clearance(rng: &mut Rng, message: Message) -> Message {
         2 => message.d(3, rng.within(0..=2) as u8),
         3 => message.d(4, 3 - channel),
         _ => message.d(5, u8::from(ends == 0)),
+    }
+}
+
+/// The other key, another turnout, another train, or one field of a key changed so that it does not read.
+fn other_key(rng: &mut Rng, message: Message) -> Message {
+    match rng.within(0..=6) {
+        0 => message.d(1, 3 - message.d[1]),
+        1 => message.d(0, rng.within(0..=63) as u8),
+        2 => Message { id: message.id.wrapping_add(1), ..message },
+        3 => message.d(1, rng.pick(&[0, 3, 255])),
+        4 => message.d(0, rng.pick(&[64, 65, 128, 255])),
+        5 => Message { id: 0, ..message },
+        _ => message.d(rng.within(2..=5) as usize, 1),
     }
 }

@@ -10,7 +10,7 @@ pub fn sheet(rng: &mut Rng) -> Sheet {
         0..=46 => (rng.within(1..=6), rng.within(1..=6), rng.within(1..=2)),
         47..=75 => (rng.within(4..=20), rng.within(2..=16), rng.within(1..=4)),
         76..=84 => (rng.within(21..=64), rng.within(0..=64), rng.within(1..=8)),
-        85..=93 => (64, 64, 8),
+        85..=91 => (64, 64, 8),
         // Few zones and no movement in the way: work on turnout 63 is often asked, and often restored in part.
         _ => (64, 0, rng.within(1..=2)),
     };

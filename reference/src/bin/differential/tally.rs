@@ -2,7 +2,9 @@
 
 use crate::crossover_lists::LastTurnout;
 use crate::crossovers::Splits;
+use crate::damaged_keys::DamagedKeys;
 use crate::ends::Ends;
+use crate::keys::Keys;
 use crate::minutes::Minutes;
 use crate::panels::Panels;
 use reference::desk::Desk;
@@ -10,9 +12,9 @@ use reference::message::RECORD;
 use reference::set::Set;
 use reference::writer::RawStation;
 
-const CODES: [u8; 29] =
-    [0, 1, 2, 3, 4, 5, 6, 7, 8, 9, 10, 11, 12, 13, 14, 15, 16, 17, 18, 19, 20, 21, 22, 30, 31, 32, 33, 60, 61];
-const HEARD: [u8; 13] = [0, 11, 12, 13, 14, 15, 16, 17, 18, 19, 20, 21, 22];
+const CODES: [u8; 30] =
+    [0, 1, 2, 3, 4, 5, 6, 7, 8, 9, 10, 11, 12, 13, 14, 15, 16, 17, 18, 19, 20, 21, 22, 23, 30, 31, 32, 33, 60, 61];
+const HEARD: [u8; 14] = [0, 11, 12, 13, 14, 15, 16, 17, 18, 19, 20, 21, 22, 23];
 /// Of the writer on a station, and of a sheet copied.
 const WRITTEN: [u8; 3] = [0, 7, 8];
 const COPIED: [u8; 8] = [0, 1, 2, 3, 4, 5, 6, 8];
@@ -31,8 +33,8 @@ pub struct Tally {
     /// Sheets copied, by code.
     copied: [u64; 256],
     codes: [u64; 256],
-    /// By kind (0 for none of the twelve) and code, of messages heard.
-    answers: [[u64; 256]; 13],
+    /// By kind (0 for none of the thirteen) and code, of messages heard.
+    answers: [[u64; 256]; 14],
     regimes: [u64; 3],
     verdicts: [u64; 7],
     pub ends: Ends,
@@ -40,6 +42,8 @@ pub struct Tally {
     pub minutes: Minutes,
     splits: Splits,
     last_turnout: LastTurnout,
+    pub keys: Keys,
+    pub damaged_keys: DamagedKeys,
 }
 
 impl Tally {
@@ -53,7 +57,7 @@ impl Tally {
             written: [0; 256],
             copied: [0; 256],
             codes: [0; 256],
-            answers: [[0; 256]; 13],
+            answers: [[0; 256]; 14],
             regimes: [0; 3],
             verdicts: [0; 7],
             ends: Ends::default(),
@@ -61,6 +65,8 @@ impl Tally {
             minutes: Minutes::default(),
             splits: Splits::default(),
             last_turnout: LastTurnout::default(),
+            keys: Keys::new(),
+            damaged_keys: DamagedKeys::default(),
         }
     }
 
@@ -72,13 +78,14 @@ impl Tally {
     pub fn hearing(&mut self, desk: &Desk, record: &[u8; RECORD]) {
         self.ends.heard(desk, record);
         self.last_turnout.heard(desk, record);
+        self.keys.heard(desk, record);
     }
 
     pub fn heard(&mut self, kind: u8, code: u8) {
         self.inputs += 1;
         self.heard += 1;
         self.code(code);
-        let kind = if kind <= 12 { usize::from(kind) } else { 0 };
+        let kind = if kind <= 13 { usize::from(kind) } else { 0 };
         self.answers[kind][usize::from(code)] += 1;
     }
 
@@ -155,7 +162,7 @@ impl Tally {
         counts.extend(WRITTEN.iter().map(written));
         let copied = |code: &u8| (format!("sheet copied, code {code}"), self.copied[usize::from(*code)]);
         counts.extend(COPIED.iter().map(copied));
-        counts.extend((1..=12).map(|kind| (format!("kind {kind} accepted"), self.answers[kind][0])));
+        counts.extend((1..=13).map(|kind| (format!("kind {kind} accepted"), self.answers[kind][0])));
         counts.extend(REGIMES.iter().zip(self.regimes).map(|(regime, count)| (format!("regime {regime}"), count)));
         counts.extend((1..=6).map(|verdict| (format!("verdict {verdict}"), self.verdicts[verdict])));
         counts.extend(self.ends.counts());
@@ -163,10 +170,12 @@ impl Tally {
         counts.extend(self.minutes.counts());
         counts.extend(self.splits.counts());
         counts.extend(self.last_turnout.counts());
+        counts.extend(self.keys.counts());
+        counts.extend(self.damaged_keys.counts());
         for (name, count) in &counts {
             println!("{name}: {count}");
         }
-        println!("answers to messages heard, by kind (0: none of the twelve) and code");
+        println!("answers to messages heard, by kind (0: none of the thirteen) and code");
         println!("kind {}", HEARD.map(|code| format!("{code:>8}")).concat());
         for (kind, answers) in self.answers.iter().enumerate() {
             println!("{kind:>4} {}", HEARD.map(|code| format!("{:>8}", answers[usize::from(code)])).concat());

@@ -1,4 +1,4 @@
-//! Messages of a random list about the movement of a zone: asked, cleared, ordered, ended.
+//! Messages of a random list about the movement of a zone: asked, cleared, released by a key, ordered, ended.
 
 use crate::lists::Place;
 use crate::rng::Rng;
@@ -20,14 +20,44 @@ impl Place<'_, '_> {
             let route = if routes.is_empty() { rng.within(0..=63) as u8 } else { rng.pick(&routes) };
             return builders::movement_asked(rng.pick(&self.talk.trains), route);
         };
-        let lacking = train.route.named() & self.state.work.agreed_turnouts() & !train.cleared;
+        let lacking = train.standing(self.state.work.agreed_turnouts()).lacking;
         let ended = if train.ordered() { builders::passed(train.id) } else { builders::cancelled(train.id) };
-        match rng.within(0..=9) {
-            0 => ended,
-            _ if lacking != 0 => self.clearance(rng, train, lacking),
+        match rng.within(0..=19) {
+            0 | 1 => ended,
+            2 | 3 => self.odd_key(rng, train),
+            4 if train.keys != 0 => self.clearance(rng, train, train.keys),
+            _ if lacking != 0 => self.release(rng, train, lacking),
             _ if train.ordered() => ended,
             _ => builders::ordered(train.id, if train.efficient == train.cleared { rng.pick(&[1, 1, 2]) } else { 2 }),
         }
+    }
+
+    /// A clearance or, where one may be used, a key.
+    fn release(&self, rng: &mut Rng, train: &Train, lacking: Set) -> Message {
+        match lacking & (train.route.flank | train.route.exit_zone) {
+            beside if beside != 0 && rng.chance(45) => key(rng, train, beside),
+            _ => self.clearance(rng, train, lacking),
+        }
+    }
+
+    /// A key on a turnout that mostly may have none: cleared, with a key already, run over, in the exit zone, named but
+    /// not worked, worked but not named, any; now and then for another train.
+    fn odd_key(&self, rng: &mut Rng, train: &Train) -> Message {
+        let (route, worked) = (train.route, self.state.work.agreed_turnouts());
+        let named = route.named();
+        let sets = [
+            train.cleared,
+            train.keys,
+            route.run_over & worked,
+            route.exit_zone & worked,
+            named & !worked,
+            worked & !named,
+            Set::MAX,
+        ];
+        let sets: Vec<Set> = sets.into_iter().filter(|&set| set != 0).collect();
+        let set = rng.pick(&sets);
+        let id = if rng.chance(20) { train.id.wrapping_add(1).max(1) } else { train.id };
+        builders::key_used(id, rng.member(set), rng.pick(&[1, 2]))
     }
 
     /// A clearance that fits, but for d5 now and then.
@@ -48,6 +78,13 @@ impl Place<'_, '_> {
         let ends = rng.weighted(&[(85, due), (12, 1 - due), (3, 2)]);
         builders::cleared(train.id, [turnout, declaration, position, clamp, channel]).d(5, ends)
     }
+}
+
+/// A key on one of these turnouts, beside those run over: mostly one that may be used.
+fn key(rng: &mut Rng, train: &Train, beside: Set) -> Message {
+    let turnout = rng.member(beside);
+    let key = if holds(train.route.flank, turnout) { rng.pick(&[1, 2]) } else { rng.pick(&[1, 2, 2, 2]) };
+    builders::key_used(train.id, turnout, key)
 }
 
 /// A clearance with any details that read, but for a d5 of 2 now and then; d0 stays.

@@ -1,11 +1,13 @@
 //! Comparisons of the unit: the list again, record by record over the 520 bytes of a desk, and damaged desks.
 
 use crate::compare::{Comparison, Files};
+use crate::damaged_keys::{change_keys, change_reserved};
+use crate::keys::key_alone;
 use crate::lists::Talk;
 use crate::Difference;
 use reference::desk::{Desk, ZONES};
 use reference::library;
-use reference::message::RECORD;
+use reference::message::{Message, RECORD};
 use reference::movement::Movement;
 use reference::refusal::number;
 use reference::replay::Answer;
@@ -37,12 +39,33 @@ impl Comparison {
                 let length = self.rng.pick(&[0, RECORD - 1]);
                 self.apply(files, desk.station(), &mut unit, &record[..length])?;
             }
+            let before = unit.by_library.clone();
             let (code, minutes) = self.apply(files, desk.station(), &mut unit, record)?;
             let call = || format!("unit_apply, record {} (from 1) after the ones before it", n + 1);
             files.same(call, (code, minutes), (number(answer), answer.ok()))?;
+            if code == 0 && matches!(record[0], 5 | 6 | 13) {
+                self.standing_question(files, desk.station(), &unit.by_library, record)?;
+                key_alone(files, &before, &unit.by_library, record)?;
+            }
         }
         files.same(|| "unit_apply, the desk after the list".into(), &unit.by_library[..], &unit::encode(desk)[..])?;
         Ok(unit.by_library)
+    }
+
+    /// The movement question, once a movement was asked, cleared or released by a key.
+    fn standing_question(
+        &mut self,
+        files: Files,
+        station: &Station,
+        bytes: &[u8],
+        record: &[u8; RECORD],
+    ) -> Result<(), Difference> {
+        let Message { zone, id, .. } = Message::from_bytes(record);
+        let answer = unit::movement_at(station, bytes, zone, id);
+        self.tally.movement(answer);
+        let call = || format!("unit_movement(sheet, desk, {zone}, {id}) after record {record:?}: desk {bytes:?}");
+        let library = library::unit_movement(files.sheet, bytes, zone, id);
+        files.same(call, library.to_le_bytes(), u64::from(u32::from_le_bytes(answer)).to_le_bytes())
     }
 
     fn fresh(&mut self, files: Files, length: usize) -> Result<Unit, Difference> {
@@ -82,9 +105,10 @@ impl Comparison {
     /// Desks with changed bytes or of another length: 61 and nothing altered where they are no desk's, else what the desk in
     /// them answers.
     pub fn damaged_desks(&mut self, files: Files, talk: &Talk, desk: &Desk, bytes: &[u8]) -> Result<(), Difference> {
-        for _ in 0..6 {
+        for _ in 0..8 {
             let damaged = self.damaged_desk(bytes);
             self.tally.inputs += 1;
+            self.tally.damaged_keys.tried(desk.station(), bytes, &damaged);
             let mut unit = Unit::with(damaged);
             for _ in 0..3 {
                 let now = unit::decode(desk.station(), &unit.by_reference);
@@ -132,7 +156,7 @@ impl Comparison {
     fn damaged_desk(&mut self, desk: &[u8]) -> Vec<u8> {
         let mut bytes = desk.to_vec();
         let (zone, busy) = (zone_at(self.rng.index(ZONES)), self.busy_zone(desk));
-        match self.rng.within(0..=13) {
+        match self.rng.within(0..=20) {
             0 => bytes[self.rng.index(DESK)] = self.rng.byte(),
             1 => {
                 for _ in 0..self.rng.within(2..=5) {
@@ -145,10 +169,8 @@ impl Comparison {
                 bytes.extend(self.rng.bytes(more));
             }
             4 => bytes[self.rng.index(8)] ^= 1 << self.rng.index(8),
-            // A field of a few values: stage, manner, whether a movement stands, route, order, recorder, a reserved byte.
-            5 | 6 => {
-                bytes[busy + self.rng.pick(&[0, 1, 26, 27, 28, 49, 54, 63])] = self.rng.pick(&[0, 1, 2, 3, 64, 255])
-            }
+            // A field of a few values: stage, manner, whether a movement stands, route, order, recorder.
+            5 | 6 => bytes[busy + self.rng.pick(&[0, 1, 26, 27, 28, 49])] = self.rng.pick(&[0, 1, 2, 3, 64, 255]),
             // A form, a train, a set or a time; where the zone has none of it, it is no desk.
             7..=9 => {
                 for _ in 0..self.rng.within(1..=3) {
@@ -156,7 +178,10 @@ impl Comparison {
                     bytes[busy + field] ^= 1 << self.rng.index(8);
                 }
             }
-            10 | 11 => self.agree_later(&mut bytes[busy..busy + 64]),
+            10..=12 => self.agree_later(&mut bytes[busy..busy + 64]),
+            13..=15 => change_keys(&mut self.rng, &mut bytes[busy..busy + 64]),
+            16 => change_keys(&mut self.rng, &mut bytes[zone..zone + 64]),
+            17 => change_reserved(&mut self.rng, &mut bytes[busy..busy + 64]),
             // A zone put in place of another.
             _ => bytes.copy_within(busy..busy + 64, zone),
         }

@@ -105,7 +105,7 @@ fn random_records(random: &mut Random, count: u32) -> Vec<[u8; RECORD]> {
     for n in 0..count {
         let mut pick = |limit: u64| random.below(limit);
         let some = [0, 0b1, 0b11, 0b11, 0b111, 0b100, 0b1000];
-        let kind = [1, 2, 3, 4, 5, 6, 6, 6, 6, 7, 7, 8, 9, 10, 11, 12][pick(16) as usize];
+        let kind = [1, 2, 3, 4, 5, 6, 6, 6, 6, 7, 7, 8, 9, 10, 11, 12, 13, 13][pick(18) as usize];
         let id = if kind == 12 { 0 } else { 7 + u32::from(pick(8) == 0) };
         let mut made = message(kind, id).at(10 * n - pick(16).min(10 * u64::from(n)) as u32);
         made.zone = u8::from(pick(40) == 0);
@@ -127,6 +127,7 @@ fn random_records(random: &mut Random, count: u32) -> Vec<[u8; RECORD]> {
             7 => made = made.d(0, 1 + pick(2) as u8),
             10 => made = Message { a: some[pick(7) as usize], ..made },
             12 => made = made.d(0, u8::from(pick(4) != 0)),
+            13 => made = made.d(0, pick(3) as u8).d(1, pick(8).clamp(1, 2) as u8),
             _ => {}
         }
         let mut record = made.to_bytes();
@@ -301,6 +302,20 @@ fn journal_with_both_ends() {
     assert!(shown.ends_with("# 1; does not read, 13: d5 is 1, not 0\n"), "{shown}");
 }
 
+/// 02, M-105: a key by its name; any other d1 does not read.
+#[test]
+fn journal_with_keys() {
+    let keys = [1, 2, 0, 3].map(|key| key_used(512, 2, key).at(120));
+    let shown = round_trip("keys", "journal", &journal(&[&keys[..], &[key_used(0, 64, 1)]].concat()));
+    let lines: Vec<&str> = shown.lines().skip(1).collect();
+    assert_eq!(lines[0], "key used: time 120, zone 0, train 512, turnout 2, key Tcl  # 1");
+    assert_eq!(lines[1], "key used: time 120, zone 0, train 512, turnout 2, key Es  # 2");
+    assert!(lines[2].starts_with("bytes: 0d 00 00000078 00000200 "), "{shown}");
+    assert!(lines[2].ends_with("# 3; does not read, 13: d1 is 0, not 1 key Tcl or 2 key Es"), "{shown}");
+    assert!(lines[3].ends_with("# 4; does not read, 13: d1 is 3, not 1 key Tcl or 2 key Es"), "{shown}");
+    assert!(lines[4].ends_with("13: d0 (turnout) is 64, not 0 to 63, id (train) is 0"), "{shown}");
+}
+
 #[test]
 fn journal_with_unreadable_records() {
     let records = [message(14, 7), passed(0), agreed(7).a(&[63]).d(5, 9), recorder(1)].map(|record| record.to_bytes());
@@ -384,6 +399,8 @@ fn bad_journal_texts() {
             "passed: time 1, zone 0, train 7, covers both ends",
             "line 2: expected the end of the line; found 'covers both",
         ),
+        ("key used: time 1, zone 0, train 7, turnout 2, Tcl", "line 2: expected 'key Tcl' or 'key Es'; found 'Tcl'"),
+        ("key used: time 1, zone 0, train 7, turnout 64, key Es", "line 2: expected 'turnout N', N from 0 to 63"),
         ("bytes: 0d00", "line 2: expected 32 bytes in hex; found '0d00'"),
     ];
     for (line, expected) in cases {
@@ -498,11 +515,11 @@ fn explanation_of_station_k() {
         ["work asked on turnouts {0,1} by M.45, form 7", "Answer 0, 0 minutes: accepted", "Open to work: none"],
         ["agreement to the work of form 7", "Answer 0, 0 minutes: accepted", "Open to work: none"],
         ["lost at {0,1}", "Answer 0, 0 minutes: accepted", "Open to work: {0,1}."],
-        ["movement of train 512", "Answer 0, 0 minutes: accepted", "Regime: held, {0} without a clearance."],
+        ["movement of train 512", "Answer 0, 0 minutes: accepted", "Regime: held, {0} without a clearance or a key."],
         ["with signals clear", "Answer 22, 0 minutes: refused: clear needs the regime clear", "the regime is held"],
         ["declaration 3 (lacks detection)", "Answer 0, 0 minutes: accepted", "Open to work: {1}, not {0}."],
         ["with signals clear", "Answer 22, 0 minutes: refused: clear needs the regime clear", "the regime is danger"],
-        ["with signals at danger", "Answer 0, 0 minutes: accepted", "route 0, ordered. Cleared: {0}."],
+        ["with signals at danger", "Answer 0, 0 minutes: accepted", "route 0, ordered. Cleared: {0}. Keys: none."],
         ["all turnouts of form 7", "Answer 19, 0 minutes: refused: a standing movement names", "which names {0}."],
         ["train 512 passed", "Answer 0, 0 minutes: accepted", "Open to work: {1}, not {0}."],
         ["all turnouts of form 7", "Answer 0, 2 minutes: accepted", "Work in zone 0: none."],
@@ -596,6 +613,67 @@ fn explanation_of_both_ends() {
     }
 }
 
+/// 02, M-105: what a key does, why it is refused, and the keys that a zone then holds.
+#[test]
+fn explanation_of_keys() {
+    let folder = Folder::new("explain_keys");
+    let worked = [0, 1, 2, 3, 4, 5];
+    let opening = [
+        work_asked(7, 1, &worked),
+        agreed(7),
+        detection_off(7, &worked, &[]),
+        movement_asked(512, 0),
+        key_used(512, 2, 1),
+    ];
+    let talk = [
+        key_used(512, 2, 2),
+        cleared(512, [2, 1, 0, 0, 1]).both_ends(),
+        key_used(512, 5, 2),
+        key_used(512, 4, 1),
+        key_used(512, 1, 1),
+        key_used(513, 3, 1),
+        key_used(512, 4, 2),
+        cleared(512, [3, 1, 0, 0, 1]).both_ends(),
+        cleared(512, [0, 2, 0, 0, 1]).both_ends(),
+        key_used(512, 3, 1),
+        cleared(512, [5, 1, 0, 0, 1]),
+        cancelled(512),
+    ];
+    let (sheet, journal) = (
+        folder.file("sheet", exit_zone_station().bytes()),
+        folder.file("journal", journal(&[&opening[..], &talk].concat())),
+    );
+    let told = text(&["explain", &sheet, &journal]);
+    let parts: Vec<&str> = told.split("\nRecord ").skip(5).collect();
+    let (occupied, rule) = (
+        "Answer 16, 0 minutes: refused: cleared already, or with a key. Here: ",
+        "Answer 23, 0 minutes: refused: a key is for a flank turnout, Es also for one in the exit zone (Art. 3.22)",
+    );
+    let expected = [
+        [
+            "key Tcl used for turnout 2, train 512.\n  Answer 0, 0 minutes: accepted: ",
+            "Effect: turnout 2 lacks nothing; it is not cleared, and open or shut to work as before.",
+            "Open to work: {0,1,2,3,4,5}.\n",
+        ],
+        ["key Es used for turnout 2", occupied, "Here: turnout 2 has a key. Nothing altered."],
+        ["clearance of turnout 2", occupied, "Here: turnout 2 has a key. Nothing altered."],
+        ["key Es used for turnout 5", rule, "Here: route 0 runs over turnout 5: no key is for it. Nothing altered."],
+        ["key Tcl used for turnout 4", rule, "Here: route 0 has turnout 4 in its exit zone, and the key is Tcl."],
+        ["key Tcl used for turnout 1", "Answer 17, 0 minutes: ", "Here: route 0 does not name turnout 1."],
+        ["train 513", "Answer 15, 0 minutes: ", "Here: the zone's movement is of train 512."],
+        ["Answer 0, ", "Cleared: none. Keys: {2,4}. ", "Regime: held, {0,3,5} without a clearance or a key."],
+        ["Answer 0, ", "Cleared: {3}. Keys: {2,4}. ", "Regime: held, {0,5} without a clearance or a key."],
+        ["Answer 0, ", "Cleared: {0,3}. Keys: {2,4}. ", "Regime: held, {5} without a clearance or a key."],
+        ["key Tcl used for turnout 3", occupied, "Here: turnout 3 is cleared. Nothing altered."],
+        ["Answer 0, ", "Keys: {2,4}. ", "clear, {0,3,5} cleared as all efficient, {2,4} released by a key."],
+        ["no movement, clearance or key", "{2,4} has no key any more.", "none. Cleared: none. Keys: none.\n"],
+    ];
+    assert_eq!(parts.len(), expected.len());
+    for (part, expected) in parts.iter().zip(expected) {
+        assert!(expected.iter().all(|words| part.contains(words)), "{part}");
+    }
+}
+
 /// On random journals the explanation gives the answers of the replay, and every refusal a reason.
 #[test]
 fn explanation_of_random_journals() {
@@ -626,7 +704,7 @@ fn explanation_of_random_journals() {
         assert!(all_told.contains(ends), "{ends}");
     }
     let codes: BTreeSet<u8> = seen.iter().map(|(_, code)| *code).collect();
-    assert_eq!(codes, BTreeSet::from([0, 11, 12, 13, 14, 15, 16, 17, 18, 19, 20, 21, 22]));
+    assert_eq!(codes, BTreeSet::from([0, 11, 12, 13, 14, 15, 16, 17, 18, 19, 20, 21, 22, 23]));
     let checks = [
         (1, &[16, 17][..]),
         (2, &[15, 18, 19]),
@@ -640,6 +718,7 @@ fn explanation_of_random_journals() {
         (10, &[15, 17, 18, 19, 22]),
         (11, &[15, 18, 19]),
         (12, &[]),
+        (13, &[15, 16, 17, 23]),
     ];
     for (kind, own) in checks {
         for code in [0, 12, 14].iter().chain(own) {

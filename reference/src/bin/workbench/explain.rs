@@ -75,7 +75,8 @@ fn accepted(message: &Message, content: &Content, before: &Desk) -> String {
     }
 }
 
-/// Where the minutes come from, the regime an order rests on, the turnouts that a passed train leaves shut.
+/// Where the minutes come from, the regime an order rests on, what a movement at its end leaves shut and which keys
+/// lapse.
 fn detail(message: &Message, content: &Content, zone: &Zone) -> Option<String> {
     match (content, zone.work) {
         (Content::AllRestored, Work::Agreed { since, .. }) => {
@@ -84,8 +85,15 @@ fn detail(message: &Message, content: &Content, zone: &Zone) -> Option<String> {
         }
         (Content::Ordered(_), _) => state::regime(zone).ok().map(|regime| format!("The regime: {regime}.")),
         (Content::Passed | Content::Cancelled, work) => {
-            let shut = state::standing(zone)?.cleared & work.agreed_turnouts();
-            (shut != 0).then(|| format!("{} stays shut to work until a new detection off.", words::set(shut)))
+            let train = state::standing(zone)?;
+            let parts = [
+                (train.cleared & work.agreed_turnouts(), "stays shut to work until a new detection off."),
+                (train.keys, "has no key any more."),
+            ];
+            let parts = parts.iter().filter(|(turnouts, _)| *turnouts != 0);
+            let parts: Vec<String> =
+                parts.map(|(turnouts, what)| format!("{} {what}", words::set(*turnouts))).collect();
+            (!parts.is_empty()).then(|| parts.join(" "))
         }
         _ => None,
     }

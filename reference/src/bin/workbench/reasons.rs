@@ -28,6 +28,7 @@ pub fn reason(desk: &Desk, message: &Message, content: &Content, refusal: Refusa
         Refusal::Unfit => unfit(station, content, train),
         Refusal::Channel => channel(content).to_string(),
         Refusal::Regime => regime(zone, content),
+        Refusal::Key => key(station, content, train),
         _ => String::new(),
     }
 }
@@ -41,7 +42,8 @@ fn works(zone: &Zone) -> Option<Works> {
 
 /// Is the message about the zone's movement, not its work?
 fn of_movement(content: &Content) -> bool {
-    matches!(content, Content::Cleared(_) | Content::Ordered(_) | Content::Passed | Content::Cancelled)
+    let of_turnout = matches!(content, Content::Cleared(_) | Content::KeyUsed { .. });
+    of_turnout || matches!(content, Content::Ordered(_) | Content::Passed | Content::Cancelled)
 }
 
 fn unknown(content: &Content, works: Option<Works>, train: Option<Train>) -> String {
@@ -57,7 +59,10 @@ fn occupied(content: &Content, works: Option<Works>, train: Option<Train>) -> St
     match (content, works, train) {
         (Content::WorkAsked { .. }, Some(works), _) => format!("work under form {}", works.id),
         (Content::MovementAsked { .. }, _, Some(train)) => format!("movement of train {}", train.id),
-        (Content::Cleared(clearance), ..) => format!("turnout {} is cleared", clearance.turnout),
+        (Content::Cleared(Clearance { turnout, .. }) | Content::KeyUsed { turnout, .. }, _, Some(train)) => {
+            let settled = if holds(train.keys, *turnout) { "has a key" } else { "is cleared" };
+            format!("turnout {turnout} {settled}")
+        }
         _ => String::new(),
     }
 }
@@ -89,7 +94,7 @@ fn place(station: &Station, number: u8, zone: &Zone, content: &Content) -> Strin
             Some(other) => format!("route {route} is of zone {}", other.zone),
             None => format!("route {route}, R is {}", station.routes.len()),
         }),
-        Content::Cleared(Clearance { turnout, .. }) => {
+        Content::Cleared(Clearance { turnout, .. }) | Content::KeyUsed { turnout, .. } => {
             if !holds(zone.work.agreed_turnouts(), turnout) {
                 bad.push(format!("turnout {turnout} is not under agreed work"));
             }
@@ -210,4 +215,16 @@ fn regime(zone: &Zone, content: &Content) -> String {
         Content::PartRestored { .. } => "the work is under M.45".to_string(),
         _ => state::regime(zone).map(|regime| format!("the regime is {regime}")).unwrap_or_default(),
     }
+}
+
+/// 23: where the route has the turnout.
+fn key(station: &Station, content: &Content, train: Option<Train>) -> String {
+    let (Content::KeyUsed { turnout, key }, Some(train)) = (content, train) else {
+        return String::new();
+    };
+    let (key, route) = (words::key(*key), state::route(station, &train));
+    if holds(train.route.run_over, *turnout) {
+        return format!("{route} runs over turnout {turnout}: no key is for it");
+    }
+    format!("{route} has turnout {turnout} in its exit zone, and the key is {key}")
 }

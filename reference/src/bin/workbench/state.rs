@@ -1,4 +1,4 @@
-//! What a zone holds, in words: its work and what is open, its movement, what is cleared, the regime.
+//! What a zone holds, in words: its work and what is open, its movement, what is cleared or has a key, the regime.
 
 use crate::words;
 use reference::movement::{Movement, Regime, Train};
@@ -38,14 +38,15 @@ fn open(zone: &Zone) -> String {
 
 fn movement(station: &Station, zone: &Zone) -> String {
     let Some(train) = standing(zone) else {
-        return "none. Cleared: none".to_string();
+        return "none. Cleared: none. Keys: none".to_string();
     };
     format!(
-        "train {} on {}, {}. Cleared: {}. Regime: {}",
+        "train {} on {}, {}. Cleared: {}. Keys: {}. Regime: {}",
         train.id,
         route(station, &train),
         if train.ordered() { "ordered" } else { "not ordered" },
         words::set_or_none(train.cleared),
+        words::set_or_none(train.keys),
         regime(zone).unwrap_or_default()
     )
 }
@@ -70,12 +71,19 @@ pub fn regime(zone: &Zone) -> Result<String, Refusal> {
     let train = standing(zone).ok_or(Refusal::UnknownId)?;
     let standing = zone.standing(train.id)?;
     let worked: Set = train.route.named() & zone.work.agreed_turnouts();
+    let by_clearance = worked & !train.keys;
     Ok(match standing.regime {
-        Regime::Held => format!("held, {} without a clearance", words::set(standing.lacking)),
+        Regime::Held => format!("held, {} without a clearance or a key", words::set(standing.lacking)),
         Regime::Clear if worked == 0 => "clear, no turnout of the route under agreed work".to_string(),
-        Regime::Clear => format!("clear, {} cleared as all efficient", words::set(worked)),
+        Regime::Clear => {
+            let parts =
+                [(by_clearance, "cleared as all efficient"), (worked & train.keys, "released by a key")].into_iter();
+            let parts = parts.filter(|(turnouts, _)| *turnouts != 0);
+            let parts: Vec<String> = parts.map(|(turnouts, how)| format!("{} {how}", words::set(turnouts))).collect();
+            format!("clear, {}", words::list(&parts))
+        }
         Regime::Danger => {
-            format!("danger, {} cleared, but not as all efficient", words::set(worked & !train.efficient))
+            format!("danger, {} cleared, but not as all efficient", words::set(by_clearance & !train.efficient))
         }
     })
 }

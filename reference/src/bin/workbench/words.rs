@@ -154,11 +154,11 @@ pub fn check(content: &Content, refusal: Refusal) -> &'static str {
         (Refusal::UnknownId, _) => "no work or movement under this id",
         (Refusal::Occupied, WorkAsked { .. }) => "work in zone",
         (Refusal::Occupied, MovementAsked { .. }) => "movement in zone",
-        (Refusal::Occupied, _) => "cleared already",
+        (Refusal::Occupied, _) => "cleared already, or with a key",
         (Refusal::Place, WorkAsked { .. }) => "a empty, outside the zone or splitting a crossover (Art. 2.16, 2.19)",
         (Refusal::Place, DetectionOff { .. }) => "both empty, overlapping or outside the work",
         (Refusal::Place, MovementAsked { .. }) => "route not below R or of another zone",
-        (Refusal::Place, Cleared(_)) => "not under agreed work or not named",
+        (Refusal::Place, Cleared(_) | KeyUsed { .. }) => "not under agreed work or not named",
         (Refusal::Place, _) => "a empty, not a proper part of the work, or splitting a crossover",
         (Refusal::Stage, Agreed) => "work agreed already",
         (Refusal::Stage, Withdrawn) => "work agreed",
@@ -178,6 +178,7 @@ pub fn check(content: &Content, refusal: Refusal) -> &'static str {
         (Refusal::Regime, PartRestored { .. }) => "part restored under M.45 (Art. 2.13)",
         (Refusal::Regime, Ordered(Aspect::Clear)) => "clear needs the regime clear",
         (Refusal::Regime, _) => "danger needs a regime that is not held",
+        (Refusal::Key, _) => "a key is for a flank turnout, Es also for one in the exit zone (Art. 3.22)",
         _ => "a rule of the record or journal",
     }
 }
@@ -193,8 +194,8 @@ pub fn met(content: &Content) -> &'static str {
         Content::DetectionOff { .. } => "work agreed; turnouts of the work, none of them cleared (Art. 3.19, 3.20)",
         Content::MovementAsked { .. } => "no other movement in the zone; a route of the zone",
         Content::Cleared(_) => {
-            "under agreed work, named by the route, not yet cleared; position, declaration and clamp fit (Annex C), \
-             and so do the ends it covers (Art. 3.24); the medium fits the recorder (Art. 3.26)"
+            "under agreed work, named by the route, neither cleared nor with a key; position, declaration and clamp \
+             fit (Annex C), and so do the ends it covers (Art. 3.24); the medium fits the recorder (Art. 3.26)"
         }
         Content::Ordered(Aspect::Clear) => "not yet ordered; clear needs the regime clear",
         Content::Ordered(Aspect::Danger) => "not yet ordered; danger needs a regime that is not held",
@@ -222,7 +223,7 @@ pub fn effect(content: &Content) -> String {
         Content::MovementAsked { .. } => "movement asked".to_string(),
         Content::Cleared(clearance) => format!("turnout {} cleared, shut to work", clearance.turnout),
         Content::Ordered(_) => "ordered".to_string(),
-        Content::Passed | Content::Cancelled => "no movement or clearance".to_string(),
+        Content::Passed | Content::Cancelled => "no movement, clearance or key".to_string(),
         Content::PartRestored { turnouts } => format!("{} leaves the work, shut to work", set(turnouts)),
         Content::KeyUsed { turnout, .. } => {
             format!("turnout {turnout} lacks nothing; it is not cleared, and open or shut to work as before")

@@ -59,19 +59,18 @@ agreed-in (Agreed g) t h = h
 pub left-in : (r s t : ℕ) → has (without s r) t ≡ true → has s t ≡ true
 left-in r s t h = and-eq-true-iff (has s t) (not (has r t)) .0 (sym (has-without s r t) ∙ h) .0
 
-module _ (st : Station) (n : ℕ) (H : List Message) (m : Message) where
-  -- the turnouts of a zone are in it
-  in-zone : (t : ℕ) → has (zoneTurnouts st n) t ≡ true → InZone st n t
-  unfolding zoneTurnouts
-  in-zone t e =
-      let there =
-      sym (has-setOf (λ k. eqb (zoneOf st k) n) (turnoutCount st) t (omega arith)) ∙ e in
-      let both = and-eq-true-iff (ltb t (turnoutCount st)) (eqb (zoneOf st t) n) .0 there in
-      record {
-        below = ltb-true t (turnoutCount st) (both .0);
-        zone = eqb-true (zoneOf st t) n (both .1);
-      }
+-- the turnouts of a zone are in it
+pub in-zone : (st : Station) (n t : ℕ) → has (zoneTurnouts st n) t ≡ true → InZone st n t
+unfolding zoneTurnouts
+in-zone st n t e =
+    let there = sym (has-setOf (λ k. eqb (zoneOf st k) n) (turnoutCount st) t (omega arith)) ∙ e in
+    let both = and-eq-true-iff (ltb t (turnoutCount st)) (eqb (zoneOf st t) n) .0 there in
+    record {
+      below = ltb-true t (turnoutCount st) (both .0);
+      zone = eqb-true (zoneOf st t) n (both .1);
+    }
 
+module _ (st : Station) (n : ℕ) (H : List Message) (m : Message) where
   -- 1 work asked
   pub step1 :
       (w : Work) → m .kind ≡ 1 → m .zone ≡ n → hasWork w ≡ false →
@@ -90,7 +89,7 @@ module _ (st : Station) (n : ℕ) (H : List Message) (m : Message) where
         opened =
             nothing-open (H then m)
             (λ t. under-is (H then m) (askedFor (m .id) (m .d0) (m .a)) work t ∙ has-zero t);
-        here = λ t h. in-zone t (within-member (m .a) (zoneTurnouts st n) t (rw zone at inside) h);
+        here = λ t h. in-zone st n t (within-member (m .a) (zoneTurnouts st n) t (rw zone at inside) h);
       }
 
   -- 2 agreed

@@ -11,6 +11,8 @@ use Rattle.sheet.specs.Sheet.{readSheet}
 use Rattle.zone.specs.declared.Regime.the-variants.{Clear}
 use Rattle.desk.specs.declared.Desk.{Desk}
 use Rattle.desk.specs.declared.Applied.{Applied}
+use Rattle.desk.specs.declared.MovementAnswer.{MovementAnswer}
+use Rattle.desk.specs.declared.WorkAnswer.{WorkAnswer}
 use Rattle.desk.specs.Desk.{freshDesk, applied, appliedRecord}
 use Rattle.desk.specs.Questions.{movementAnswered, workAnswered}
 use Rattle.history.specs.Since.{since}
@@ -26,14 +28,20 @@ abbrev pub hears : Station → Desk → Input → Heard Desk
 hears st d (message m) = heardBy (applied st d m)
 hears st d (bytes s) = heardBy (appliedRecord st d s)
 
-abbrev pub ours : Model
-ours = record {
+-- a desk that keeps what ours keeps, by how it hears and how it answers the two questions
+abbrev pub onDesks :
+    (Station → Desk → Input → Heard Desk) → (Station → Desk → ℕ → ℕ → MovementAnswer)
+    → (Station → Desk → ℕ → WorkAnswer) → Model
+onDesks hear movement work = record {
   State = Desk;
   fresh = freshDesk;
-  hear = hears;
-  movement = movementAnswered;
-  work = workAnswered;
+  hear = hear;
+  movement = movement;
+  work = work;
 }
+
+abbrev pub ours : Model
+ours = onDesks hears movementAnswered workAnswered
 
 -- what holds after a list, for a desk on a station
 pub record Holds (D : Model) (st : Station) (inputs : List Input) : Type 0 where

@@ -20,40 +20,22 @@ use Rattle.desk.specs.declared.WorkAnswer.{WorkAnswer}
 use Rattle.desk.specs.Desk.{freshDesk, zoneAt}
 use Rattle.desk.specs.Questions.{movementAnswered, workAnswered}
 use Rattle.history.specs.Lists.{Input, message, bytes, Heard, Model}
-use Rattle.history.specs.Demand3.{hears}
+use Rattle.history.specs.Demand3.{hears, onDesks}
 
 -- a desk that hears as ours does and answers the movement question by itself
 abbrev pub answeringMovements : (Station → Desk → ℕ → ℕ → MovementAnswer) → Model
-answeringMovements movement = record {
-  State = Desk;
-  fresh = freshDesk;
-  hear = hears;
-  movement = movement;
-  work = workAnswered;
-}
+answeringMovements movement = onDesks hears movement workAnswered
 
 -- a desk that hears as ours does and answers the work question without looking at what it heard
 abbrev pub keepingNothing : (Station → ℕ → WorkAnswer) → Model
-keepingNothing answer = record {
-  State = Desk;
-  fresh = freshDesk;
-  hear = hears;
-  movement = movementAnswered;
-  work = λ st d t. answer st t;
-}
+keepingNothing answer = onDesks hears movementAnswered (λ st d t. answer st t)
 
 -- a desk that hears each message by the fresh desk, and stays fresh
 abbrev pub forgets : Station → Desk → Input → Heard Desk
 forgets st d i = record { reply = hears st d i .reply; state = freshDesk }
 
 abbrev pub staysFresh : Model
-staysFresh = record {
-  State = Desk;
-  fresh = freshDesk;
-  hear = forgets;
-  movement = movementAnswered;
-  work = workAnswered;
-}
+staysFresh = onDesks forgets movementAnswered workAnswered
 
 -- document 02, M-101: a clearance of declaration 1 as one that covers both ends
 abbrev pub forBoth : Message → Message
@@ -78,13 +60,7 @@ hearsForBoth st d (message m) = hears st d (message (forBoth m))
 hearsForBoth st d (bytes s) = hears st d (bytes s)
 
 abbrev pub takesForBoth : Model
-takesForBoth = record {
-  State = Desk;
-  fresh = freshDesk;
-  hear = hearsForBoth;
-  movement = movementAnswered;
-  work = workAnswered;
-}
+takesForBoth = onDesks hearsForBoth movementAnswered workAnswered
 
 -- document 02, M-105: a desk that accepts keys and keeps none; a record it hears as it is
 abbrev pub hearsNoKeys : Station → Desk → Input → Heard Desk
@@ -95,13 +71,7 @@ hearsNoKeys st d (message m) = record {
 hearsNoKeys st d (bytes s) = hears st d (bytes s)
 
 abbrev pub keepsNoKeys : Model
-keepsNoKeys = record {
-  State = Desk;
-  fresh = freshDesk;
-  hear = hearsNoKeys;
-  movement = movementAnswered;
-  work = workAnswered;
-}
+keepsNoKeys = onDesks hearsNoKeys movementAnswered workAnswered
 
 -- a desk, and every key used in zone 0, for whatever train
 pub record WithKeys : Type 0 where

@@ -1,6 +1,9 @@
--- The messages that cases by hand are made of, all of zone 0.
+-- The messages that cases by hand are made of, all of zone 0, and the answers.
 use Prim.Native.Nat.{ℕ}
 use Rattle.message.specs.declared.Message.{Message}
+use Rattle.zone.specs.declared.Regime.{Regime}
+use Rattle.desk.specs.declared.MovementAnswer.{MovementAnswer}
+use Rattle.history.specs.Lists.{Reply}
 
 -- a message of zone 0 that names no set and no detail
 abbrev pub plain : ℕ → ℕ → ℕ → Message
@@ -79,3 +82,11 @@ keying time train turnout key = record {
   d4 = 0;
   d5 = 0;
 }
+
+-- an answer to a message; and one to the movement question, where it is not refused
+abbrev pub reply : ℕ → ℕ → Reply
+reply code minutes = record { code = code; minutes = minutes }
+
+abbrev pub movementTold : Regime → ℕ → ℕ → MovementAnswer
+movementTold regime lowest count =
+    record { code = 0; regime = regime; lowest = lowest; count = count }

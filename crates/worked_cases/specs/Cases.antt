@@ -3,36 +3,29 @@
 use mathlib.Core.Bool.{true, false}
 use mathlib.Core.List.{[], _∷_, _++_, map}
 use mathlib.Core.Path.{_≡_}
-use Prim.Native.Nat.{ℕ}
 use Rattle.message.specs.Record.{encoded}
 use Rattle.sheet.specs.Sheet.{readSheet}
 use Rattle.signals.specs.Answer as Verdicts
-use Rattle.desk.specs.declared.MovementAnswer.{MovementAnswer}
 use Rattle.desk.specs.Desk.{freshDesk}
 use Rattle.desk.specs.Questions.{movementRefused, movementAnswered}
 use Rattle.journal.specs.Journal.{counted, records}
 use Rattle.report.specs.Text.{textOf}
-use Rattle.zone.specs.declared.Regime.{Regime}
 use Rattle.zone.specs.declared.Regime.the-variants.{Held, Clear}
 use Rattle.zone.specs.Movement.{isClear}
 use Rattle.history.specs.History.{ofItsRoute, allowsClear}
 use Rattle.history.specs.Lists.{message, answers, deskAfter, zoneMessages}
 use Rattle.history.specs.Demand3.{ours}
-use Rattle.history.specs.CaseMessages.{plain, naming, clearing, declaring, keying}
+use Rattle.history.specs.CaseMessages.{plain, naming, clearing, declaring, keying, reply}
+use Rattle.history.specs.CaseMessages.{movementTold}
 use Rattle.history.specs.Cases.{asked, acceptedK, upTo3, upTo6, upTo8, upTo10, keyed2}
 use Rattle.worked_cases.specs.OtherDesks.{takesForBoth, keepsNoKeys, keysOutlive}
 use Rattle.worked_cases.specs.StationK.{sheetK, stationK, messagesK, recordsK, journalK}
-use Rattle.worked_cases.specs.StationK.{replayedK, linesK, reply, answersK, openK, heardK}
+use Rattle.worked_cases.specs.StationK.{replayedK, linesK, answersK, openK, heardK}
 use Rattle.worked_cases.specs.StationK.{verbal, verbalMovement, recorderOut, RestoredAfter}
 use Rattle.worked_cases.specs.StationK.{crossover, cleared0, cleared2, oneEndCleared}
 use Rattle.worked_cases.specs.StationK.{oneEndHeard, GetsFourth, scene1, keyedThen}
 use Rattle.worked_cases.specs.StationK.{nextAsked, nextTrain, nextHeard, keyedHeard}
 use Rattle.worked_cases.specs.StationK.{GetsAfter, movementAfter, openAfter}
-
--- the answer to the movement question, where it is not refused
-abbrev movementTold : Regime → ℕ → ℕ → MovementAnswer
-movementTold regime lowest count =
-    record { code = 0; regime = regime; lowest = lowest; count = count }
 
 pub record Cases : Type 0 where
   pub sheet : readSheet sheetK .code ≡ 0

@@ -14,7 +14,7 @@ use Rattle.desk.specs.Questions.{movementAnswered, workAnswered}
 use Rattle.history.specs.Lists.{Input, message, bytes, Reply, after, answers, deskAfter}
 use Rattle.history.specs.Lists.{zoneMessages}
 use Rattle.history.specs.Demand3.{ours}
-use Rattle.history.specs.CaseMessages.{plain, naming, clearing, declaring}
+use Rattle.history.specs.CaseMessages.{plain, naming, clearing, declaring, reply}
 use Rattle.history.specs.Cases.{asked, keyed2}
 use Rattle.replay.specs.Replay.{replayed}
 
@@ -85,9 +85,6 @@ linesK =
     ∷ 49 ∷ 48 ∷ 32 ∷ 48 ∷ 32 ∷ 48 ∷ 10
     ∷ 49 ∷ 49 ∷ 32 ∷ 48 ∷ 32 ∷ 50 ∷ 10
     ∷ []
-
-abbrev pub reply : ℕ → ℕ → Reply
-reply code minutes = record { code = code; minutes = minutes }
 
 -- the answers to messages heard by the fresh desk of station K
 abbrev pub answersK : List Message → List Reply

@@ -1,2 +1,3 @@
 pub mod Desk
 pub mod Questions
+pub mod Separate

@@ -1,6 +1,6 @@
 // The works desk: it hears messages and records, and answers two questions. The rules are in specs/: Desk.antt
 // (hearing) and Questions.antt; the kinds are in the crate `rules`. Every function takes any station and any desk
-// value.
+// value. specs/Separate.antt is the law that a message touches its own zone alone.
 ghost use mathlib.Core.Path.{_≡_};
 ghost use Prim.Native.Nat.{_<_};
 ghost use Rattle.desk.specs.Desk.{

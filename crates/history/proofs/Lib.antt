@@ -12,3 +12,5 @@ pub mod Runs
 pub mod Standing
 pub mod Theorem
 pub mod Exactly
+pub mod Alone
+pub mod Separation

@@ -12,5 +12,7 @@ pub mod Runs
 pub mod Standing
 pub mod Theorem
 pub mod Exactly
+pub mod ZoneCases
+pub mod SharingDesks
 pub mod Alone
 pub mod Separation

@@ -6,3 +6,6 @@ pub mod Separation
 pub mod Exact
 pub mod CaseMessages
 pub mod Cases
+pub mod TwoZones
+pub mod SharingDesks
+pub mod ZoneCases

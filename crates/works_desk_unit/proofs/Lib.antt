@@ -5,3 +5,4 @@ pub mod OneByOne
 pub mod Demand3
 pub mod Codes
 pub mod Calls
+pub mod Separation

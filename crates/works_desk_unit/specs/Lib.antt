@@ -1,3 +1,4 @@
 pub mod Unit
 pub mod OneByOne
 pub mod Calls
+pub mod Separation

@@ -2,7 +2,7 @@
 // slice goes as a pointer and a length. The rules are in specs/Unit.antt, the desk's bytes in the crate `desk_bytes`.
 // Every function takes any bytes and any numbers. proofs/OneByOne.antt has that records heard one by one get what
 // replaying them gives, proofs/Demand3.antt that demand 3 holds of them, proofs/Calls.antt that the numbers which the
-// calls return show it.
+// calls return show it, proofs/Separation.antt that a zone's answers go by its own messages alone.
 ghost use mathlib.Core.Path.{_≡_};
 ghost use Rattle.packed.specs.Packed.{movementPacked, workPacked};
 ghost use Rattle.works_desk_unit.specs.Unit.{unitFresh, startNumber, unitApplied, called, unitMovement, unitWork};

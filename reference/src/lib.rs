@@ -16,6 +16,7 @@ pub mod movement;
 pub mod panel;
 pub mod refusal;
 pub mod replay;
+pub mod separation;
 pub mod set;
 pub mod sheet;
 pub mod signals;

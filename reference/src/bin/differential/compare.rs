@@ -1,7 +1,7 @@
 //! The comparisons: each call made of the library and of this implementation, on the same bytes.
 //! Those of records stand in `records`, those of journals in `journals`, those of units in `units`, those of the writer
 //! in `writers`, those of the cabin panel in `panels`, those of minutes in `minutes`, those of split crossovers in
-//! `crossovers`, those of works on signals in `verdicts`.
+//! `crossovers`, those of two lists alike in a zone in `separation`, those of works on signals in `verdicts`.
 
 use crate::lists::Talk;
 use crate::rng::Rng;
@@ -46,9 +46,16 @@ impl Files<'_> {
             library: format!("{library:?}"),
             reference: format!("{reference:?}"),
             sheet: self.sheet.to_vec(),
-            journal: self.journal.to_vec(),
+            journals: vec![self.journal.to_vec()],
         })
     }
+}
+
+/// The trains that the messages among these records name, and one that none does.
+pub fn trains<R: AsRef<[u8]>>(records: &[R]) -> BTreeSet<u32> {
+    let read = records.iter().filter_map(|record| message::read(record.as_ref()).ok());
+    let of_trains = read.filter(|message| matches!(message.kind, 5..=9 | 13));
+    of_trains.map(|message| message.id).chain([NO_TRAIN]).collect()
 }
 
 impl Comparison {
@@ -100,7 +107,7 @@ impl Comparison {
             library: "(not called)".into(),
             reference: "breaks it".into(),
             sheet: good.clone(),
-            journal: journal.clone(),
+            journals: vec![journal.clone()],
         })?;
         self.struck(&good, &accepted)?;
         self.records(&records)?;
@@ -199,10 +206,7 @@ impl Comparison {
             let call = || format!("unit_work(sheet, desk after the journal, {turnout})");
             files.same(call, library::unit_work(files.sheet, unit, turnout), packed)?;
         }
-        let read = records.iter().filter_map(|record| message::read(record).ok());
-        let mut trains: BTreeSet<u32> =
-            read.filter(|message| matches!(message.kind, 5..=9 | 13)).map(|message| message.id).collect();
-        trains.insert(NO_TRAIN);
+        let trains = trains(records);
         for zone in 0..=8 {
             for &train in &trains {
                 let answer = replay::movement_numbers(&desk.movement_question(zone, train));

@@ -33,6 +33,11 @@ impl Talk {
         Talk { zones, forms: [id(), id(), id()], trains: [id(), id(), id()] }
     }
 
+    /// The same ids, in these zones.
+    pub fn in_zones(&self, zones: Vec<u8>) -> Talk {
+        Talk { zones, ..*self }
+    }
+
     /// The next record of the list.
     pub fn next(&self, rng: &mut Rng, desk: &Desk) -> [u8; RECORD] {
         let zone = rng.pick(&self.zones);

@@ -1,5 +1,6 @@
 //! `differential SEED COUNT`: the proved library and this implementation side by side on COUNT random inputs.
-//! Stops at the first difference (exit 1), and leaves `sheet` and `journal` in the folder `difference`.
+//! Stops at the first difference (exit 1), and leaves `sheet` and `journal` in the folder `difference`; of a pair
+//! of lists, also `journal-2`.
 
 mod compare;
 mod crossover_lists;
@@ -18,6 +19,9 @@ mod panels;
 mod raw_stations;
 mod records;
 mod rng;
+mod separation;
+mod separation_counts;
+mod separation_lists;
 mod stations;
 mod tally;
 mod times;
@@ -28,7 +32,7 @@ mod writers;
 
 use compare::Comparison;
 use std::path::Path;
-use std::{env, fs, process};
+use std::{env, fs, io, process};
 
 /// A call that the two answer differently, and the files to replay it from.
 pub struct Difference {
@@ -36,7 +40,8 @@ pub struct Difference {
     pub library: String,
     pub reference: String,
     pub sheet: Vec<u8>,
-    pub journal: Vec<u8>,
+    /// One, or two where two lists were heard.
+    pub journals: Vec<Vec<u8>>,
 }
 
 fn main() {
@@ -66,6 +71,7 @@ fn run(comparison: &mut Comparison, count: u64) -> Result<(), Difference> {
     while comparison.tally.inputs < count {
         comparison.round()?;
         comparison.crossovers()?;
+        comparison.separation()?;
     }
     Ok(())
 }
@@ -75,16 +81,21 @@ fn show(difference: &Difference, comparison: &Comparison, seed: u64) {
     println!("call: {}", difference.call);
     println!("library: {}", difference.library);
     println!("reference: {}", difference.reference);
-    let folder = Path::new("difference");
-    let written = fs::create_dir_all(folder)
-        .and_then(|()| fs::write(folder.join("sheet"), &difference.sheet))
-        .and_then(|()| fs::write(folder.join("journal"), &difference.journal));
-    match written {
-        Ok(()) => println!(
-            "sheet ({} bytes) and journal ({} bytes) are in the folder difference",
-            difference.sheet.len(),
-            difference.journal.len()
-        ),
+    match leave(difference) {
+        Ok(files) => println!("left in the folder difference: {}", files.join(", ")),
         Err(error) => println!("difference: {error}"),
     }
+}
+
+/// Writes the files of the difference; their names and lengths.
+fn leave(difference: &Difference) -> io::Result<Vec<String>> {
+    let folder = Path::new("difference");
+    fs::create_dir_all(folder)?;
+    let journals = ["journal", "journal-2"].into_iter().zip(&difference.journals);
+    let mut left = Vec::new();
+    for (name, bytes) in [("sheet", &difference.sheet)].into_iter().chain(journals) {
+        fs::write(folder.join(name), bytes)?;
+        left.push(format!("{name} ({} bytes)", bytes.len()));
+    }
+    Ok(left)
 }

@@ -7,6 +7,7 @@ use crate::ends::Ends;
 use crate::keys::Keys;
 use crate::minutes::Minutes;
 use crate::panels::Panels;
+use crate::separation_counts::Separation;
 use reference::desk::Desk;
 use reference::message::RECORD;
 use reference::set::Set;
@@ -44,6 +45,7 @@ pub struct Tally {
     last_turnout: LastTurnout,
     pub keys: Keys,
     pub damaged_keys: DamagedKeys,
+    pub separation: Separation,
 }
 
 impl Tally {
@@ -67,6 +69,7 @@ impl Tally {
             last_turnout: LastTurnout::default(),
             keys: Keys::new(),
             damaged_keys: DamagedKeys::default(),
+            separation: Separation::default(),
         }
     }
 
@@ -172,6 +175,7 @@ impl Tally {
         counts.extend(self.last_turnout.counts());
         counts.extend(self.keys.counts());
         counts.extend(self.damaged_keys.counts());
+        counts.extend(self.separation.counts());
         for (name, count) in &counts {
             println!("{name}: {count}");
         }

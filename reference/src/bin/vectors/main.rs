@@ -13,6 +13,7 @@ mod minutes;
 mod panels;
 mod records;
 mod scenes;
+mod separation;
 mod sheets;
 mod signal_works;
 
@@ -41,6 +42,7 @@ fn main() {
     minutes::add(&mut cases);
     crossovers::add(&mut cases);
     keys::add(&mut cases);
+    separation::add(&mut cases);
     println!("{} cases, {} bytes; stdout {} bytes", cases.count, cases.bytes.len(), cases.stdout.len());
     assert!(cases.bytes.len() <= CASES_LIMIT && cases.stdout.len() <= STDOUT_LIMIT);
     let write = |name: &str, bytes: &[u8]| fs::write(Path::new(&folder).join(name), bytes);

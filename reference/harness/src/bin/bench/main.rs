@@ -9,7 +9,8 @@ use reference::sheet::SheetFault;
 use reference::station::Station;
 use reference::unit::{self, DESK};
 use reference::writer::{self, RawStation};
-use reference::{builders, library, panel, replay, sheet, trial};
+use harness::{library, trial};
+use reference::{builders, panel, replay, sheet};
 use std::hint::black_box;
 use std::time::Instant;
 

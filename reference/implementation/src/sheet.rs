@@ -3,10 +3,10 @@
 use crate::set::{holds, members, Set};
 use crate::station::{Drive, Route, Station, Turnout};
 
-pub(crate) const HEADER: usize = 8;
-pub(crate) const TURNOUT: usize = 3;
-pub(crate) const ROUTE: usize = 33;
-pub(crate) const NO_PARTNER: u8 = 255;
+pub const HEADER: usize = 8;
+pub const TURNOUT: usize = 3;
+pub const ROUTE: usize = 33;
+pub const NO_PARTNER: u8 = 255;
 
 /// The most turnouts and routes that a reader takes.
 #[derive(Clone, Copy, Debug, PartialEq, Eq)]

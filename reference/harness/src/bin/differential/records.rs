@@ -2,7 +2,7 @@
 
 use crate::compare::{Comparison, Files};
 use crate::Difference;
-use reference::library;
+use harness::library;
 use reference::message::{self, Message, RECORD};
 use reference::refusal::number;
 

@@ -2,8 +2,8 @@
 //! The first 2,312 are laid out as a sheet of 64 turnouts and 64 routes is; then come the station's own counts P, R and
 //! Z, any bytes.
 
-use crate::sheet::{self, HEADER, ROUTE, TURNOUT};
-use crate::writer::{self, RawStation, RawTurnout, RECORDS};
+use reference::sheet::{self, HEADER, ROUTE, TURNOUT};
+use reference::writer::{self, RawStation, RawTurnout, RECORDS};
 
 pub const VALUES: usize = 2_315;
 const ROUTES_AT: usize = HEADER + TURNOUT * RECORDS;

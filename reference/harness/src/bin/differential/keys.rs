@@ -5,7 +5,7 @@ use crate::compare::Files;
 use crate::Difference;
 use reference::desk::{Desk, ZONES};
 use reference::keys::Key;
-use reference::library;
+use harness::library;
 use reference::message::{Message, RECORD};
 use reference::movement::{Movement, Regime, Train};
 use reference::refusal::number;

@@ -7,7 +7,7 @@ use crate::Difference;
 use reference::crossover::split_at;
 use reference::set::{holds, only, Set};
 use reference::writer::RawStation;
-use reference::{library, trial};
+use harness::{library, trial};
 
 /// Stations made for it in each round, and the sets tried on each. With those tried on the writer's stations that is
 /// about one input in fifteen.

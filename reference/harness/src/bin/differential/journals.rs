@@ -5,7 +5,8 @@ use crate::Difference;
 use reference::builders::{journal_header, journal_of, recorder};
 use reference::message::RECORD;
 use reference::refusal::number;
-use reference::{journal, library, replay};
+use harness::library;
+use reference::{journal, replay};
 
 impl Comparison {
     /// A journal grown record by record, in bytes that may not hold them all.

@@ -3,7 +3,7 @@
 use reference::builders::{largest_station, station_k, Sheet, ELECTRIC, HAND};
 use reference::refusal::number;
 use reference::sheet;
-use reference::trial;
+use harness::trial;
 use reference::writer::{copy_sheet, write, RawStation, RawTurnout};
 
 /// What a buffer holds before the call.

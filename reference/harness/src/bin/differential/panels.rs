@@ -3,7 +3,8 @@
 
 use crate::compare::{Comparison, Files};
 use crate::{panel_sheets, Difference};
-use reference::{library, panel, replay, sheet};
+use harness::library;
+use reference::{panel, replay, sheet};
 
 /// Damaged sheets in each round, beside a good one.
 const DAMAGED: usize = 5;

@@ -13,7 +13,8 @@ use reference::desk::Desk;
 use reference::message::{self, Message, RECORD};
 use reference::refusal::number;
 use reference::replay::{self, Answer, ANSWER};
-use reference::{library, sheet};
+use harness::library;
+use reference::sheet;
 use std::collections::BTreeSet;
 use std::fmt::Debug;
 

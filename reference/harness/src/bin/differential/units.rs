@@ -6,7 +6,7 @@ use crate::keys::key_alone;
 use crate::lists::Talk;
 use crate::Difference;
 use reference::desk::{Desk, ZONES};
-use reference::library;
+use harness::library;
 use reference::message::{Message, RECORD};
 use reference::movement::Movement;
 use reference::refusal::number;

@@ -2,7 +2,8 @@
 
 use crate::compare::{Comparison, Files};
 use crate::Difference;
-use reference::{library, replay};
+use harness::library;
+use reference::replay;
 
 impl Comparison {
     /// All 1,152 verdicts, and numbers out of range on each side.

@@ -8,8 +8,6 @@ pub mod desk;
 pub mod history;
 pub mod journal;
 pub mod keys;
-#[cfg(feature = "library")]
-pub mod library;
 pub mod message;
 pub mod minutes;
 pub mod movement;
@@ -21,7 +19,6 @@ pub mod set;
 pub mod sheet;
 pub mod signals;
 pub mod station;
-pub mod trial;
 pub mod unit;
 pub mod work;
 pub mod writer;

@@ -7,7 +7,7 @@ use reference::builders::NO_PARTNER;
 use reference::set::{only, Set};
 use reference::sheet;
 use reference::station::Route;
-use reference::trial::{self, VALUES};
+use harness::trial::{self, VALUES};
 use reference::writer::{RawStation, RawTurnout, RECORDS};
 
 /// Counts on both sides of the limits.

@@ -1,0 +1,5 @@
+//! What the tests of the proved library share: its C interface, and stations that no sheet gave, in bytes.
+
+#[cfg(feature = "library")]
+pub mod library;
+pub mod trial;

@@ -1,9 +1,9 @@
 //! The C interface of the proved library, and safe calls over it. `trial_write_sheet` and `trial_splits` are of no
 //! shipped archive: they are there for the comparison, since no other call takes a station that no sheet gave.
 
+use crate::trial::VALUES;
 use reference::message::Message;
 use reference::set::Set;
-use crate::trial::VALUES;
 
 mod c {
     extern "C" {

@@ -1,9 +1,9 @@
 //! The writer: station K, the largest station, and stations that no sheet describes. 02, M-100.
 
+use harness::trial;
 use reference::builders::{largest_station, station_k, Sheet, ELECTRIC, HAND};
 use reference::refusal::number;
 use reference::sheet;
-use harness::trial;
 use reference::writer::{copy_sheet, write, RawStation, RawTurnout};
 
 /// What a buffer holds before the call.

@@ -4,12 +4,12 @@
 mod inputs;
 mod stack;
 
+use harness::{library, trial};
 use reference::message::RECORD;
 use reference::sheet::SheetFault;
 use reference::station::Station;
 use reference::unit::{self, DESK};
 use reference::writer::{self, RawStation};
-use harness::{library, trial};
 use reference::{builders, panel, replay, sheet};
 use std::hint::black_box;
 use std::time::Instant;

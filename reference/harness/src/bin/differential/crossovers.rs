@@ -4,10 +4,10 @@
 use crate::compare::{Comparison, Files};
 use crate::crossover_stations::{made, some_set, LAST};
 use crate::Difference;
+use harness::{library, trial};
 use reference::crossover::split_at;
 use reference::set::{holds, only, Set};
 use reference::writer::RawStation;
-use harness::{library, trial};
 
 /// Stations made for it in each round, and the sets tried on each. With those tried on the writer's stations that is
 /// about one input in fifteen.

@@ -2,10 +2,10 @@
 
 use crate::compare::{Comparison, Files};
 use crate::Difference;
+use harness::library;
 use reference::builders::{journal_header, journal_of, recorder};
 use reference::message::RECORD;
 use reference::refusal::number;
-use harness::library;
 use reference::{journal, replay};
 
 impl Comparison {

@@ -3,9 +3,9 @@
 
 use crate::compare::Files;
 use crate::Difference;
+use harness::library;
 use reference::desk::{Desk, ZONES};
 use reference::keys::Key;
-use harness::library;
 use reference::message::{Message, RECORD};
 use reference::movement::{Movement, Regime, Train};
 use reference::refusal::number;

@@ -3,11 +3,11 @@
 
 use crate::rng::Rng;
 use crate::stations;
+use harness::trial::{self, VALUES};
 use reference::builders::NO_PARTNER;
 use reference::set::{only, Set};
 use reference::sheet;
 use reference::station::Route;
-use harness::trial::{self, VALUES};
 use reference::writer::{RawStation, RawTurnout, RECORDS};
 
 /// Counts on both sides of the limits.

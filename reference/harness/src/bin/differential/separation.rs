@@ -6,8 +6,8 @@
 use crate::compare::{trains, Comparison, Files};
 use crate::separation_lists::{List, Pair};
 use crate::Difference;
-use reference::builders::journal_of;
 use harness::library;
+use reference::builders::journal_of;
 use reference::message::RECORD;
 use reference::replay::ANSWER;
 use reference::separation::{alike, given, kept, Given, Heard, HeardHere, Numbers, Place};

@@ -2,10 +2,10 @@
 
 use crate::compare::{Comparison, Files};
 use crate::{raw_stations, Difference};
-use reference::refusal::{number, Refusal};
-use reference::writer::{self, RawStation};
 use harness::{library, trial};
+use reference::refusal::{number, Refusal};
 use reference::sheet;
+use reference::writer::{self, RawStation};
 
 /// Good stations in each round; with each of them so many stations are written that are good, damaged and odd. That is
 /// about one input in nine.

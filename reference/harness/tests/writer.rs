@@ -1,9 +1,10 @@
 //! The writer: station K, the largest station, and stations that no sheet describes. 02, M-100.
 
 use harness::trial;
-use reference::builders::{largest_station, station_k, Sheet, ELECTRIC, HAND};
+use reference::builders::{largest_station, station_k};
+use reference::drafts::Sheet;
 use reference::refusal::number;
-use reference::sheet;
+use reference::sheet::{self, ELECTRIC, HAND};
 use reference::writer::{copy_sheet, write, RawStation, RawTurnout};
 
 /// What a buffer holds before the call.

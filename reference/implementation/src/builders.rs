@@ -1,58 +1,9 @@
-//! Builders of sheets, messages and journals for tests, stored cases and random inputs; station K among them.
+//! Stations, messages and journals for tests, stored cases and random inputs; station K among them.
 
-use crate::journal;
-use crate::message::{Message, RECORD};
-use crate::set::{self, Set};
-
-pub const NO_PARTNER: u8 = 255;
-pub const ELECTRIC: u8 = 0;
-pub const HAND: u8 = 1;
-
-/// A sheet in the making: any bytes in the records, counts as many as there are records.
-#[derive(Clone, Debug, Default)]
-pub struct Sheet {
-    pub zones: u8,
-    /// Zone, partner, drive.
-    pub turnouts: Vec<[u8; 3]>,
-    /// Zone, and the sets run over, flank, exit zone, reverse.
-    pub routes: Vec<(u8, [Set; 4])>,
-}
-
-impl Sheet {
-    pub fn new(zones: u8) -> Sheet {
-        Sheet { zones, ..Sheet::default() }
-    }
-
-    /// One turnout alone.
-    pub fn turnout(mut self, zone: u8, drive: u8) -> Sheet {
-        self.turnouts.push([zone, NO_PARTNER, drive]);
-        self
-    }
-
-    /// Two turnouts, the ends of a crossover.
-    pub fn crossover(mut self, zone: u8, drive: u8) -> Sheet {
-        let first = self.turnouts.len() as u8;
-        self.turnouts.push([zone, first + 1, drive]);
-        self.turnouts.push([zone, first, drive]);
-        self
-    }
-
-    pub fn route(mut self, zone: u8, run_over: &[u8], flank: &[u8], exit_zone: &[u8], reverse: &[u8]) -> Sheet {
-        self.routes.push((zone, [run_over, flank, exit_zone, reverse].map(set::of)));
-        self
-    }
-
-    pub fn bytes(&self) -> Vec<u8> {
-        let mut bytes = b"SPT\x00\x01".to_vec();
-        bytes.extend([self.turnouts.len() as u8, self.routes.len() as u8, self.zones]);
-        bytes.extend(self.turnouts.iter().flatten());
-        for (zone, sets) in &self.routes {
-            bytes.push(*zone);
-            bytes.extend(sets.iter().flat_map(|set| set.to_be_bytes()));
-        }
-        bytes
-    }
-}
+use crate::drafts::{journal_of, Sheet};
+use crate::message::Message;
+use crate::set;
+use crate::sheet::{ELECTRIC, HAND, NO_PARTNER};
 
 /// 01, "Station K": "0 and 1 an electric crossover, 2 alone by hand; route 0 runs over {0}, flank {2}, reverse empty".
 pub fn station_k() -> Sheet {
@@ -209,21 +160,6 @@ pub fn recorder(working: u8) -> Message {
 /// 1 Tcl, 2 Es.
 pub fn key_used(train: u32, turnout: u8, key: u8) -> Message {
     message(13, train).d(0, turnout).d(1, key)
-}
-
-/// The header of a journal with any count.
-pub fn journal_header(count: u32) -> [u8; journal::HEADER] {
-    let mut header = [0; journal::HEADER];
-    header[..5].copy_from_slice(b"WKJ\x00\x01");
-    header[5..9].copy_from_slice(&count.to_be_bytes());
-    header
-}
-
-/// A journal of any records of 32 bytes, also such as do not read.
-pub fn journal_of(records: &[[u8; RECORD]]) -> Vec<u8> {
-    let mut journal = journal_header(records.len() as u32).to_vec();
-    journal.extend(records.iter().flatten());
-    journal
 }
 
 pub fn journal(messages: &[Message]) -> Vec<u8> {

@@ -5,6 +5,7 @@ pub mod builders;
 pub mod clearance;
 pub mod crossover;
 pub mod desk;
+pub mod drafts;
 pub mod history;
 pub mod journal;
 pub mod keys;

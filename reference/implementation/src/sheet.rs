@@ -7,6 +7,8 @@ pub const HEADER: usize = 8;
 pub const TURNOUT: usize = 3;
 pub const ROUTE: usize = 33;
 pub const NO_PARTNER: u8 = 255;
+pub const ELECTRIC: u8 = 0;
+pub const HAND: u8 = 1;
 
 /// The most turnouts and routes that a reader takes.
 #[derive(Clone, Copy, Debug, PartialEq, Eq)]
@@ -113,8 +115,8 @@ fn read_turnout(records: &[u8], n: u8, zones: u8) -> Option<Turnout> {
         _ => return None,
     };
     let drive = match drive {
-        0 => Drive::Electric,
-        1 => Drive::Hand,
+        ELECTRIC => Drive::Electric,
+        HAND => Drive::Hand,
         _ => return None,
     };
     Some(Turnout { zone, partner, drive })

@@ -4,7 +4,7 @@
 use crate::crossover;
 use crate::refusal::{number, Refusal};
 use crate::set::Set;
-use crate::sheet::{self, HEADER, NO_PARTNER, ROUTE, TURNOUT};
+use crate::sheet::{self, ELECTRIC, HAND, HEADER, NO_PARTNER, ROUTE, TURNOUT};
 use crate::station::{Drive, Route, Station, Turnout};
 
 /// Records of each sort in a station, those past its counts included.
@@ -84,8 +84,8 @@ impl From<&Station> for RawStation {
 /// 01: "partner (the other end of a crossover, or 255 for none); drive (0 electric, 1 hand with key lock)".
 fn raw_turnout(turnout: &Turnout) -> RawTurnout {
     let drive = match turnout.drive {
-        Drive::Electric => 0,
-        Drive::Hand => 1,
+        Drive::Electric => ELECTRIC,
+        Drive::Hand => HAND,
     };
     RawTurnout { zone: turnout.zone, partner: turnout.partner.unwrap_or(NO_PARTNER), drive }
 }

@@ -3,6 +3,7 @@
 
 use reference::builders::*;
 use reference::desk::Desk;
+use reference::drafts::Sheet;
 use reference::history::History;
 use reference::message::{self, Message};
 use reference::movement::Regime;

@@ -1,9 +1,11 @@
 //! The cabin panel's reading: its limits, their place in the order of checks, and the desk's reading beside it.
 //! 02, M-102.
 
-use reference::builders::{largest_panel_station, largest_station, plain_station, station_k, Sheet, ELECTRIC};
+use reference::builders::{largest_panel_station, largest_station, plain_station, station_k};
+use reference::drafts::Sheet;
 use reference::refusal::number;
 use reference::replay::sheet_number;
+use reference::sheet::ELECTRIC;
 use reference::writer::{write, RawStation};
 use reference::{panel, sheet};
 

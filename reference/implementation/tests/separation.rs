@@ -3,11 +3,12 @@
 
 use reference::builders::*;
 use reference::desk::{Desk, ZONES};
+use reference::drafts::Sheet;
 use reference::message::{Message, RECORD};
 use reference::refusal::number;
 use reference::replay::{movement_numbers, work_numbers};
 use reference::separation::{alike, given, kept, messages, zone_of, Given, Heard, HeardHere, Numbers, Place};
-use reference::sheet;
+use reference::sheet::{self, ELECTRIC, HAND};
 use reference::station::Station;
 use reference::zone::Zone;
 

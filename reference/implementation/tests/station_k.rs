@@ -2,6 +2,7 @@
 
 use reference::builders::*;
 use reference::desk::Desk;
+use reference::drafts::journal_header;
 use reference::history::History;
 use reference::message::{self, Message};
 use reference::movement::Regime;

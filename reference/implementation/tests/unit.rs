@@ -2,6 +2,7 @@
 
 use reference::builders::*;
 use reference::desk::Desk;
+use reference::drafts::Sheet;
 use reference::sheet;
 use reference::station::Station;
 use reference::unit::{self, DESK};

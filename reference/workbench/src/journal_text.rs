@@ -3,7 +3,7 @@
 use crate::kinds::{kind, word, Field, KINDS};
 use crate::lines::{lines, Line, TextError};
 use crate::{refused, words};
-use reference::builders::journal_of;
+use reference::drafts::journal_of;
 use reference::journal;
 use reference::message::{Message, RECORD};
 use reference::refusal::Refusal;

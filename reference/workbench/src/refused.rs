@@ -1,11 +1,10 @@
 //! Refused sheets, stations, records and journals in words: the number, the rule, and what breaks it here.
 
 use crate::{kinds, words};
-use reference::builders::NO_PARTNER;
 use reference::journal::{self, HEADER, MOST};
 use reference::message::{Message, RECORD};
 use reference::refusal::Refusal;
-use reference::sheet::{self, SheetFault};
+use reference::sheet::{self, SheetFault, NO_PARTNER};
 use reference::writer::RawStation;
 
 const SHEET_HEADER: usize = 8;

@@ -2,8 +2,8 @@
 
 use crate::lines::{end, lines, number_after, Line, TextError};
 use crate::{plan, words};
-use reference::builders::{Sheet, ELECTRIC, HAND, NO_PARTNER};
-use reference::sheet::SheetFault;
+use reference::drafts::Sheet;
+use reference::sheet::{SheetFault, ELECTRIC, HAND, NO_PARTNER};
 use reference::station::{Drive, Route, Station, Turnout};
 
 const DRIVES: [(&str, u8); 2] = [("electric", ELECTRIC), ("hand with key lock", HAND)];

@@ -1,8 +1,10 @@
 //! The program `workbench`, run on files: texts and back, errors with line numbers, the explanation of a journal.
 
 use reference::builders::*;
+use reference::drafts::{journal_of, Sheet};
 use reference::message::{self, Message, RECORD};
 use reference::refusal::number;
+use reference::sheet::{ELECTRIC, HAND};
 use reference::{replay, sheet};
 use std::collections::BTreeSet;
 use std::path::PathBuf;

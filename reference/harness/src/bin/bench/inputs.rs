@@ -1,6 +1,7 @@
 //! What is timed: station K with rising times, and the largest station with a long conversation in all its zones.
 
-use reference::builders::{self, Sheet};
+use reference::builders;
+use reference::drafts::Sheet;
 use reference::message::{Message, RECORD};
 use reference::{journal, replay, sheet};
 

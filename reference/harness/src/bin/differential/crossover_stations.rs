@@ -1,8 +1,8 @@
 //! Stations as they stand and sets for the test that a set splits no crossover.
 
 use crate::rng::Rng;
-use reference::builders::NO_PARTNER;
 use reference::set::{only, Set};
+use reference::sheet::NO_PARTNER;
 use reference::writer::{RawStation, RawTurnout};
 
 /// Counts of turnouts at both ends of their range and past it.

@@ -3,7 +3,8 @@
 use crate::compare::{Comparison, Files};
 use crate::Difference;
 use harness::library;
-use reference::builders::{journal_header, journal_of, recorder};
+use reference::builders::recorder;
+use reference::drafts::{journal_header, journal_of};
 use reference::message::RECORD;
 use reference::refusal::number;
 use reference::{journal, replay};

@@ -2,7 +2,8 @@
 
 use crate::rng::Rng;
 use crate::stations::{self, put};
-use reference::builders::{plain_station, Sheet};
+use reference::builders::plain_station;
+use reference::drafts::Sheet;
 
 /// Counts on both sides of the panel's limits and of the sheet's.
 const TURNOUTS: [u8; 10] = [0, 1, 15, 16, 17, 18, 63, 64, 65, 255];

@@ -4,9 +4,8 @@
 use crate::rng::Rng;
 use crate::stations;
 use harness::trial::{self, VALUES};
-use reference::builders::NO_PARTNER;
 use reference::set::{only, Set};
-use reference::sheet;
+use reference::sheet::{self, NO_PARTNER};
 use reference::station::Route;
 use reference::writer::{RawStation, RawTurnout, RECORDS};
 

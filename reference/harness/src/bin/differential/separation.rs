@@ -7,7 +7,7 @@ use crate::compare::{trains, Comparison, Files};
 use crate::separation_lists::{List, Pair};
 use crate::Difference;
 use harness::library;
-use reference::builders::journal_of;
+use reference::drafts::journal_of;
 use reference::message::RECORD;
 use reference::replay::ANSWER;
 use reference::separation::{alike, given, kept, Given, Heard, HeardHere, Numbers, Place};

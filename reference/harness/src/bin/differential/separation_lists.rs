@@ -6,6 +6,7 @@ use crate::rng::Rng;
 use crate::stations;
 use reference::builders;
 use reference::desk::Desk;
+use reference::drafts::Sheet;
 use reference::message::{Message, RECORD};
 use reference::separation::Place;
 use reference::sheet;
@@ -60,7 +61,7 @@ impl Pair {
 }
 
 /// A good sheet of two zones at least; mostly each has a few turnouts and routes.
-fn several_zones(rng: &mut Rng) -> builders::Sheet {
+fn several_zones(rng: &mut Rng) -> Sheet {
     let (turnouts, routes, zones) = match rng.within(0..=39) {
         0..=27 => (rng.within(4..=10), rng.within(3..=8), 2),
         28..=38 => (rng.within(8..=20), rng.within(6..=16), rng.within(2..=5)),

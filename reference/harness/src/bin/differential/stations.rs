@@ -1,8 +1,9 @@
 //! Random sheets: good ones, small and large, and damaged ones.
 
 use crate::rng::Rng;
-use reference::builders::{Sheet, NO_PARTNER};
+use reference::drafts::Sheet;
 use reference::set::{holds, members, only, Set};
+use reference::sheet::NO_PARTNER;
 
 /// A good sheet.
 pub fn sheet(rng: &mut Rng) -> Sheet {

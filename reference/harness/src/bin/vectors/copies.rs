@@ -3,6 +3,8 @@
 use crate::cases::Cases;
 use crate::sheets::two_zones;
 use reference::builders::*;
+use reference::drafts::Sheet;
+use reference::sheet::HAND;
 
 /// A buffer before the call: no two bytes in a row are the same, none is 0.
 fn buffer(length: usize) -> Vec<u8> {

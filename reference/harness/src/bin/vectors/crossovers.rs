@@ -4,7 +4,9 @@
 use crate::cases::Cases;
 use crate::scenes::*;
 use reference::builders::*;
+use reference::drafts::Sheet;
 use reference::message::Message;
+use reference::sheet::{ELECTRIC, HAND};
 
 /// 64 turnouts in one zone: 0-1 and 62-63 are crossovers, the others alone.
 fn first_and_last() -> Vec<u8> {

@@ -3,7 +3,9 @@
 use crate::cases::Cases;
 use crate::scenes::*;
 use reference::builders::*;
+use reference::drafts::Sheet;
 use reference::message::Message;
+use reference::sheet::{ELECTRIC, HAND};
 
 /// Zone 0: 0-1 an electric crossover, 2 by hand, 3-4 a hand crossover, 5 electric. Zone 1: 6 electric, 7 by hand.
 /// Route 0 runs over 0 (reverse), 2 and 5, flank 3 and 4 (reverse). Route 1 is zone 1's. Route 2 runs over 2 alone,

@@ -4,6 +4,7 @@
 use crate::cases::Cases;
 use crate::scenes::*;
 use reference::builders::*;
+use reference::drafts::journal_of;
 use reference::message::Message;
 use reference::sheet;
 

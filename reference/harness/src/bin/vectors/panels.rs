@@ -4,6 +4,7 @@
 use crate::cases::Cases;
 use crate::sheets::two_zones;
 use reference::builders::*;
+use reference::drafts::Sheet;
 
 /// The sheet with the bytes from `at` replaced.
 fn with(sheet: &Sheet, at: usize, bytes: &[u8]) -> Vec<u8> {

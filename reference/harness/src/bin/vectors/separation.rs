@@ -4,7 +4,9 @@
 use crate::cases::Cases;
 use crate::scenes::*;
 use reference::builders::*;
+use reference::drafts::Sheet;
 use reference::message::Message;
+use reference::sheet::{ELECTRIC, HAND};
 
 /// Messages, each with the code stated for it.
 type Stated = Vec<(Message, u8)>;

@@ -2,6 +2,8 @@
 
 use crate::cases::Cases;
 use reference::builders::*;
+use reference::drafts::Sheet;
+use reference::sheet::{ELECTRIC, HAND};
 
 /// Two zones: crossovers 0-1 and 2-3 (electric) and 4 (hand) in zone 0, 5 and 6 in zone 1;
 /// route 0 is good, and the tests add a second.

@@ -32,3 +32,56 @@ pub fn station(values: &[u8; VALUES]) -> RawStation {
     }
     station
 }
+
+#[cfg(test)]
+mod tests {
+    use super::*;
+    use reference::builders::station_k;
+    use reference::refusal::number;
+
+    /// What a buffer holds before the call.
+    const BEFORE: u8 = 0xA5;
+
+    /// "reading them yields that station": K with any single byte changed, in its records, past them and in its counts.
+    /// What is written reads as that station; how many are written was counted by hand.
+    #[test]
+    fn reading_yields_the_station() {
+        let k = RawStation::from(&sheet::read(&station_k().bytes()).expect("station K reads"));
+        let good = values(&k);
+        let mut written_stations = 0;
+        for at in 8..good.len() {
+            for value in [0, 1, 2, 3, 4, 5, 6, 7, 8, 9, 63, 64, 65, 128, 254, 255] {
+                let mut changed = good;
+                changed[at] = value;
+                let station = station(&changed);
+                let mut buffer = [BEFORE; 2400];
+                let code = number(&writer::write(&station, &mut buffer));
+                if code == 0 {
+                    let read = sheet::read(&buffer[..station.sheet_length()]).expect("what was written reads");
+                    assert_eq!(RawStation::from(&read), station);
+                    written_stations += u32::from(station != k);
+                } else {
+                    assert_eq!((code, buffer), (7, [BEFORE; 2400]));
+                }
+            }
+        }
+        // Z from 2 to 8; turnout 2 electric; in route 0 run over {1} or {0,1}, flank {}, exit zone {1}, reverse {0},
+        // {2} or {0,2}.
+        assert_eq!(written_stations, 7 + 1 + 7);
+    }
+
+    #[test]
+    fn values_there_and_back() {
+        let mut given = [0; VALUES];
+        for (n, value) in given.iter_mut().enumerate() {
+            *value = (n * 7 + n / 256) as u8;
+        }
+        let station = station(&given);
+        let again = values(&station);
+        assert_eq!(again[..7], *b"SPT\x00\x01\x40\x40");
+        assert_eq!(again[8..], given[8..]);
+        assert_eq!((station.turnouts, station.routes, station.zones), (given[2312], given[2313], given[2314]));
+        let last = RawTurnout { zone: given[197], partner: given[198], drive: given[199] };
+        assert_eq!(station.turnout_records[63], last);
+    }
+}

@@ -12,3 +12,6 @@ pub fn split_at(pairs: impl Iterator<Item = (u8, u8)>, set: Set) -> impl Iterato
 pub fn splits(pairs: impl Iterator<Item = (u8, u8)>, set: Set) -> bool {
     split_at(pairs, set).next().is_some()
 }
+
+#[cfg(test)]
+mod tests;

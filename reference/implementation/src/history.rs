@@ -115,3 +115,66 @@ impl<'m> History<'m> {
 fn clears(message: &Message, turnout: u8) -> bool {
     message.kind == 6 && message.d[0] == turnout
 }
+
+#[cfg(test)]
+mod tests {
+    use super::*;
+    use crate::builders::*;
+    use crate::desk::Desk;
+    use crate::movement::Regime;
+    use crate::{set, sheet};
+
+    fn station() -> Station {
+        sheet::read(&station_k().bytes()).expect("station K reads")
+    }
+
+    /// The history says of station K's journal what the desk answers.
+    #[test]
+    fn of_the_journal() {
+        let station = station();
+        let mut desk = Desk::fresh(&station);
+        let mut accepted = Vec::new();
+        for message in journal_k() {
+            if desk.hear(&message).is_ok() {
+                accepted.push(message);
+            }
+            let history = History(&accepted);
+            for turnout in 0..3 {
+                assert_eq!(desk.work_question(turnout), Ok(history.open_to_work(turnout)));
+                assert!(!(history.open_to_work(turnout) && history.cleared(turnout)));
+            }
+            if let Some(asked) = history.standing() {
+                let clear = desk.movement_question(0, asked.id).expect("stands").regime == Regime::Clear;
+                let good = (0..3)
+                    .filter(|&turnout| history.route(&station).is_some_and(|route| holds(route.named(), turnout)))
+                    .filter(|&turnout| history.under_agreed_work(turnout))
+                    .all(|turnout| history.released(&station, turnout));
+                assert_eq!(clear, good);
+            }
+        }
+        assert_eq!(accepted.len(), 8);
+    }
+
+    /// Turnout 2, flank, at work, and train 512 asked for.
+    fn asked_over_2() -> Vec<Message> {
+        vec![work_asked(7, 1, &[2]), agreed(7), detection_off(7, &[2], &[]), movement_asked(512, 0)]
+    }
+
+    #[test]
+    fn of_keys() {
+        let (station, asked) = (station(), asked_over_2());
+        let then = |list: &[Message], more: &[Message]| [list, more].concat();
+        let by = |list: &[Message]| {
+            let history = History(list);
+            (history.key(2), history.released(&station, 2), history.cleared(2), history.open_to_work(2))
+        };
+        let keyed = then(&asked, &[key_used(512, 2, 1)]);
+        assert_eq!(by(&asked), (false, false, false, true));
+        assert_eq!(by(&keyed), (true, true, false, true));
+        assert_eq!(History(&asked).lacking(&station), set::of(&[2]));
+        assert_eq!(History(&keyed).lacking(&station), 0);
+        assert_eq!(by(&then(&keyed, &[cancelled(512), movement_asked(513, 0)])), (false, false, false, true));
+        assert!(!History(&then(&asked, &[key_used(513, 2, 1)])).key(2)); // another train's
+        assert!(!History(&then(&keyed, &[cancelled(512)])).key(2));
+    }
+}

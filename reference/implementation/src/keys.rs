@@ -24,3 +24,23 @@ impl Key {
         holds(route.flank, turnout) || holds(route.exit_zone, turnout) && self == Key::Es
     }
 }
+
+#[cfg(test)]
+mod tests {
+    use super::*;
+    use crate::set;
+
+    #[test]
+    fn numbers() {
+        assert_eq!([0, 1, 2, 3, 255].map(Key::of), [None, Some(Key::Tcl), Some(Key::Es), None, None]);
+    }
+
+    #[test]
+    fn which_key_where() {
+        let sets = [&[0][..], &[1], &[2]].map(set::of);
+        let route = Route { run_over: sets[0], flank: sets[1], exit_zone: sets[2], ..Route::default() };
+        let by = |key: Key| [0, 1, 2, 3, 64].map(|turnout| key.may_release(&route, turnout));
+        assert_eq!(by(Key::Tcl), [false, true, false, false, false]);
+        assert_eq!(by(Key::Es), [false, true, true, false, false]);
+    }
+}

@@ -181,3 +181,25 @@ pub fn write(message: &Message, buffer: &mut [u8]) -> Result<(), Refusal> {
     *buffer = message.to_bytes();
     Ok(())
 }
+
+#[cfg(test)]
+mod tests {
+    use super::*;
+    use crate::builders::work_asked;
+
+    #[test]
+    fn refusals_of_records_and_writing() {
+        let good = work_asked(7, 1, &[0]).to_bytes();
+        assert_eq!(read(&good), Ok(work_asked(7, 1, &[0])));
+        assert_eq!(read(&good[..31]), Err(Refusal::RecordLength));
+        let mut bad = good;
+        bad[0] = 14;
+        assert_eq!(read(&bad), Err(Refusal::Kind));
+        let mut buffer = [9; 32];
+        assert_eq!(write(&Message::from_bytes(&bad), &mut buffer), Err(Refusal::Field));
+        assert_eq!(write(&Message::from_bytes(&bad), &mut buffer[..31]), Err(Refusal::RecordLength));
+        assert_eq!(buffer, [9; 32]);
+        assert_eq!(write(&work_asked(7, 1, &[0]), &mut buffer), Ok(()));
+        assert_eq!(buffer, good);
+    }
+}

@@ -20,3 +20,19 @@ pub fn nearest(seconds: u32) -> u32 {
 pub fn exact_half(seconds: u32) -> bool {
     seconds % MINUTE == HALF
 }
+
+#[cfg(test)]
+mod tests {
+    use super::*;
+
+    /// The nearest minute is at most half a minute away, and even where it is half a minute.
+    #[test]
+    fn minutes_by_their_distance() {
+        for seconds in (0..=100_000).chain(u32::MAX - 100_000..=u32::MAX) {
+            let minutes = u64::from(nearest(seconds));
+            let away = (60 * minutes).abs_diff(u64::from(seconds));
+            assert!(away < 30 || away == 30 && minutes % 2 == 0, "{seconds} seconds as {minutes} minutes");
+            assert_eq!(exact_half(seconds), away == 30);
+        }
+    }
+}

@@ -16,3 +16,6 @@ pub fn read(sheet: &[u8]) -> Result<Station, SheetFault> {
 pub fn station(sheet: &[u8]) -> RawStation {
     read(sheet).map_or_else(|_| RawStation::empty(), |station| RawStation::from(&station))
 }
+
+#[cfg(test)]
+mod tests;

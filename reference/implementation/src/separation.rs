@@ -116,3 +116,6 @@ impl Heard for HeardHere<'_> {
         work_numbers(&self.desk.work_question(turnout))
     }
 }
+
+#[cfg(test)]
+mod tests;

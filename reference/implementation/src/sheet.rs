@@ -181,3 +181,17 @@ pub fn same_position(route: &Route, station: &Station) -> bool {
         _ => true,
     })
 }
+
+#[cfg(test)]
+mod tests {
+    use super::*;
+    use crate::builders::station_k;
+
+    #[test]
+    fn sheet_of_station_k_has_50_bytes() {
+        let sheet = station_k().bytes();
+        assert_eq!(sheet.len(), 50);
+        assert_eq!(read(&sheet[..49]), Err(SheetFault::Length));
+        assert_eq!(read(&[&sheet[..], &[0]].concat()), Err(SheetFault::Length));
+    }
+}

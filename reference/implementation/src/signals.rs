@@ -83,3 +83,17 @@ fn dark(line: u8, signal: u8) -> Verdict {
         _ => Verdict::Dark,
     }
 }
+
+#[cfg(test)]
+mod tests {
+    use super::*;
+
+    #[test]
+    fn verdicts_by_day() {
+        assert_eq!(verdict(1, 1, 2), Ok(Verdict::DarkBlockOut));
+        assert_eq!(verdict(1, 2, 2), Ok(Verdict::Dark));
+        assert_eq!(verdict(2, 1, 2), Ok(Verdict::ClosureOnly));
+        assert_eq!(verdict(0, 1, 2), Err(Refusal::Range));
+        assert_eq!(verdict(3, 5, 1), Ok(Verdict::AtDanger));
+    }
+}

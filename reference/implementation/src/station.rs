@@ -78,3 +78,24 @@ impl Station {
         crossover::splits(self.pairs(set), set)
     }
 }
+
+#[cfg(test)]
+mod tests {
+    use super::*;
+    use crate::builders::station_k;
+    use crate::sheet;
+
+    /// A partner not below P reads as none. In a station that no sheet gave, a turnout that names itself or is not named
+    /// back has one.
+    #[test]
+    fn turnouts_with_a_partner() {
+        let k = sheet::read(&station_k().bytes()).expect("station K reads");
+        assert_eq!([0, 1, 2, 3, 63, 255].map(|n| k.has_partner(n)), [true, true, false, false, false, false]);
+        let turnout = |partner| Turnout { zone: 0, partner, drive: Drive::Electric };
+        let turnouts = [Some(0), Some(3), Some(4), None, Some(255)].map(turnout);
+        let odd = Station { turnouts: turnouts[..4].to_vec(), ..k.clone() };
+        assert_eq!([0, 1, 2, 3, 4].map(|n| odd.has_partner(n)), [true, true, false, false, false]);
+        let odd = Station { turnouts: turnouts.to_vec(), ..k };
+        assert_eq!([0, 1, 2, 3, 4, 5].map(|n| odd.has_partner(n)), [true, true, true, false, false, false]);
+    }
+}

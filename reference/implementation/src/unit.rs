@@ -187,3 +187,6 @@ pub fn work_at(station: &Station, bytes: &[u8], turnout: u8) -> [u8; 2] {
         None => [NOT_A_DESK, 0],
     }
 }
+
+#[cfg(test)]
+mod tests;

@@ -145,3 +145,6 @@ pub fn copy_sheet(sheet: &[u8], buffer: &mut [u8]) -> [u8; 2] {
         Err(fault) => [fault.number(), fault.index()],
     }
 }
+
+#[cfg(test)]
+mod tests;

@@ -1,15 +1,14 @@
-//! Release keys (02, M-105): station K's two scenes, a station with an exit zone, the order of checks, the history.
-//! Keys in a unit's bytes stand in `unit`.
+//! Release keys (02, M-105): station K's two scenes, a station with an exit zone, the order of checks,
+//! on the whole desk. Keys in a unit's bytes stand in `unit`, in the history in `history`.
 
 use reference::builders::*;
 use reference::desk::Desk;
 use reference::drafts::Sheet;
-use reference::history::History;
 use reference::message::{self, Message};
 use reference::movement::Regime;
 use reference::refusal::{number, Refusal};
+use reference::sheet;
 use reference::station::Station;
-use reference::{set, sheet};
 
 const TCL: u8 = 1;
 const ES: u8 = 2;
@@ -216,22 +215,4 @@ fn order_of_checks() {
     assert_eq!(code(&station_k(), &scene_1(), key_used(TRAIN, 0, TCL)), 17);
     // No 20, no 21: a key has no position, no medium, and no need of the recorder.
     assert_eq!(code(&station_k(), &with(scene_1(), &[recorder(0)]), key_used(TRAIN, 2, TCL)), 0);
-}
-
-/// The history's words for keys.
-#[test]
-fn history() {
-    let (sheet, keyed) = (station(&station_k()), with(scene_1(), &[key_used(TRAIN, 2, TCL)]));
-    let by = |list: &[Message]| {
-        let history = History(list);
-        (history.key(2), history.released(&sheet, 2), history.cleared(2), history.open_to_work(2))
-    };
-    assert_eq!(by(&scene_1()), (false, false, false, true));
-    assert_eq!(by(&keyed), (true, true, false, true));
-    assert_eq!(History(&scene_1()).lacking(&sheet), set::of(&[2]));
-    assert_eq!(History(&keyed).lacking(&sheet), 0);
-    let next = with(keyed.clone(), &[cancelled(TRAIN), movement_asked(513, 0)]);
-    assert_eq!(by(&next), (false, false, false, true));
-    assert!(!History(&with(scene_1(), &[key_used(513, 2, TCL)])).key(2)); // another train's
-    assert!(!History(&with(keyed, &[cancelled(TRAIN)])).key(2));
 }

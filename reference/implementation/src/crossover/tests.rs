@@ -1,10 +1,10 @@
 //! The test that a set splits no crossover, on stations as they stand. 01: "a count over its limit is read as the
 //! limit, a partner not below P as none".
 
-use reference::builders::{largest_station, station_k};
-use reference::set::{of, Set};
-use reference::sheet::{self, NO_PARTNER};
-use reference::writer::{RawStation, RawTurnout, RECORDS};
+use crate::builders::{largest_station, station_k};
+use crate::set::{of, Set};
+use crate::sheet::{self, NO_PARTNER};
+use crate::writer::{RawStation, RawTurnout, RECORDS};
 
 const ALL: Set = Set::MAX;
 

@@ -1,13 +1,13 @@
 //! The cabin panel's reading: its limits, their place in the order of checks, and the desk's reading beside it.
 //! 02, M-102.
 
-use reference::builders::{largest_panel_station, largest_station, plain_station, station_k};
-use reference::drafts::Sheet;
-use reference::refusal::number;
-use reference::replay::sheet_number;
-use reference::sheet::ELECTRIC;
-use reference::writer::{write, RawStation};
-use reference::{panel, sheet};
+use crate::builders::{largest_panel_station, largest_station, plain_station, station_k};
+use crate::drafts::Sheet;
+use crate::refusal::number;
+use crate::replay::sheet_number;
+use crate::sheet::ELECTRIC;
+use crate::writer::{write, RawStation};
+use crate::{panel, sheet};
 
 /// The sheet's bytes with the one at `at` replaced.
 fn with(sheet: &Sheet, at: usize, value: u8) -> Vec<u8> {

@@ -1,11 +1,11 @@
 //! The unit: station K record by record over 520 bytes, keys in them (02, M-105), and bytes that are no desk.
 
-use reference::builders::*;
-use reference::desk::Desk;
-use reference::drafts::Sheet;
-use reference::sheet;
-use reference::station::Station;
-use reference::unit::{self, DESK};
+use crate::builders::*;
+use crate::desk::Desk;
+use crate::drafts::Sheet;
+use crate::sheet;
+use crate::station::Station;
+use crate::unit::{self, DESK};
 
 fn station() -> Station {
     read(&station_k())

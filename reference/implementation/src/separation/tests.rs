@@ -1,16 +1,16 @@
 //! Separation (02, M-106): lists alike in zone 0 give it the same, whatever zone 1 hears; and the comparison finds the
 //! desks that mix their zones.
 
-use reference::builders::*;
-use reference::desk::{Desk, ZONES};
-use reference::drafts::Sheet;
-use reference::message::{Message, RECORD};
-use reference::refusal::number;
-use reference::replay::{movement_numbers, work_numbers};
-use reference::separation::{alike, given, kept, messages, zone_of, Given, Heard, HeardHere, Numbers, Place};
-use reference::sheet::{self, ELECTRIC, HAND};
-use reference::station::Station;
-use reference::zone::Zone;
+use crate::builders::*;
+use crate::desk::{Desk, ZONES};
+use crate::drafts::Sheet;
+use crate::message::{Message, RECORD};
+use crate::refusal::number;
+use crate::replay::{movement_numbers, work_numbers};
+use crate::separation::{alike, given, kept, messages, zone_of, Given, Heard, HeardHere, Numbers, Place};
+use crate::sheet::{self, ELECTRIC, HAND};
+use crate::station::Station;
+use crate::zone::Zone;
 
 type List = Vec<Vec<u8>>;
 

@@ -1,11 +1,10 @@
 //! The writer: station K, the largest station, and stations that no sheet describes. 02, M-100.
 
-use harness::trial;
-use reference::builders::{largest_station, station_k};
-use reference::drafts::Sheet;
-use reference::refusal::number;
-use reference::sheet::{self, ELECTRIC, HAND};
-use reference::writer::{copy_sheet, write, RawStation, RawTurnout};
+use crate::builders::{largest_station, station_k};
+use crate::drafts::Sheet;
+use crate::refusal::number;
+use crate::sheet::{self, ELECTRIC, HAND};
+use crate::writer::{copy_sheet, write, RawStation};
 
 /// What a buffer holds before the call.
 const BEFORE: u8 = 0xA5;
@@ -65,32 +64,6 @@ fn smallest_station_into_its_length() {
     refused(8, &station, &[10, 0]);
 }
 
-/// "reading them yields that station": K with any single byte changed, in its records, past them and in its counts.
-/// What is written reads as that station; how many are written was counted by hand.
-#[test]
-fn reading_yields_the_station() {
-    let good = trial::values(&raw(&station_k()));
-    let mut written_stations = 0;
-    for at in 8..good.len() {
-        for value in [0, 1, 2, 3, 4, 5, 6, 7, 8, 9, 63, 64, 65, 128, 254, 255] {
-            let mut values = good;
-            values[at] = value;
-            let station = trial::station(&values);
-            let (code, buffer) = written(&station, 2400);
-            if code == 0 {
-                let read = sheet::read(&buffer[..station.sheet_length()]).expect("what was written reads");
-                assert_eq!(RawStation::from(&read), station);
-                written_stations += u32::from(station != raw(&station_k()));
-            } else {
-                assert_eq!((code, buffer), (7, vec![BEFORE; 2400]));
-            }
-        }
-    }
-    // Z from 2 to 8; turnout 2 electric; in route 0 run over {1} or {0,1}, flank {}, exit zone {1}, reverse {0},
-    // {2} or {0,2}.
-    assert_eq!(written_stations, 7 + 1 + 7);
-}
-
 #[test]
 fn partners() {
     let lengths = [50, 49, 0, 60];
@@ -101,8 +74,8 @@ fn partners() {
     refused(7, &changed(|station| station.turnout_records[2].partner = 3), &lengths); // P
     refused(7, &changed(|station| station.turnout_records[2].partner = 64), &lengths);
     refused(7, &changed(|station| station.turnout_records[2].partner = 254), &lengths);
+    // Ends of two drives.
     refused(7, &changed(|station| station.turnout_records[1].drive = HAND), &lengths);
-    // ends of two drives
 }
 
 #[test]
@@ -167,21 +140,6 @@ fn order_of_refusals() {
     let bad = changed(|station| station.turnout_records[1].partner = 255);
     refused(7, &bad, &[0, 49]);
     refused(8, &raw(&station_k()), &[0, 49]);
-}
-
-#[test]
-fn values_there_and_back() {
-    let mut values = [0; trial::VALUES];
-    for (n, value) in values.iter_mut().enumerate() {
-        *value = (n * 7 + n / 256) as u8;
-    }
-    let station = trial::station(&values);
-    let again = trial::values(&station);
-    assert_eq!(again[..7], *b"SPT\x00\x01\x40\x40");
-    assert_eq!(again[8..], values[8..]);
-    assert_eq!((station.turnouts, station.routes, station.zones), (values[2312], values[2313], values[2314]));
-    let last = RawTurnout { zone: values[197], partner: values[198], drive: values[199] };
-    assert_eq!(station.turnout_records[63], last);
 }
 
 #[test]

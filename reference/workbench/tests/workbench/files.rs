@@ -1,0 +1,95 @@
+//! Sheets copied, sheets checked for the cabin panel, and files that every command refuses.
+
+use crate::{failure, large_station, text, Folder};
+use reference::builders::*;
+use reference::drafts::Sheet;
+use reference::sheet::HAND;
+use std::fs;
+
+/// 02, M-100: "a sheet that was read and written comes out byte for byte".
+#[test]
+fn sheets_copied() {
+    let folder = Folder::new("copied");
+    let smallest = Sheet::new(1).turnout(0, HAND);
+    for sheet in [station_k(), large_station(), largest_station(), smallest] {
+        let bytes = sheet.bytes();
+        let (given, copy) = (folder.file("given", &bytes), folder.file("copy", [7; 3000]));
+        assert_eq!(text(&["copy-sheet", &given, &copy]), format!("{copy}: {} bytes written\n", bytes.len()));
+        assert_eq!(fs::read(&copy).expect("written"), bytes);
+        text(&["copy-sheet", &given, &given]);
+        assert_eq!(fs::read(&given).expect("written"), bytes);
+    }
+    assert!(failure(&["copy-sheet", &folder.path("missing"), &folder.path("new")]).contains("missing: "));
+    assert!(!folder.0.join("new").exists());
+}
+
+/// 02, M-102: "Turned away: 9, more than 16 turnouts or 8 routes, .. before the length".
+#[test]
+fn sheets_for_the_panel() {
+    let folder = Folder::new("panel");
+    let taken = [
+        (station_k(), "3 turnouts, 1 route, 1 zone"),
+        (largest_panel_station(), "16 turnouts, 8 routes, 2 zones"),
+        (Sheet::new(8).turnout(7, HAND), "1 turnout, 0 routes, 8 zones"),
+    ];
+    for (sheet, counts) in taken {
+        let path = folder.file("sheet", sheet.bytes());
+        assert_eq!(text(&["check-panel", &path]), format!("the cabin panel takes the sheet: {counts}\n"));
+    }
+    let rule = "refused by 9: more than 16 turnouts or 8 routes, the cabin panel's limits. Here: ";
+    let over = [largest_panel_station().turnout(0, HAND), largest_panel_station().route(0, &[4], &[], &[], &[])];
+    for (sheet, counts) in over.iter().zip(["P 17, R 8", "P 16, R 9"]) {
+        let bytes = sheet.bytes();
+        for lent in [&bytes[..], &bytes[..bytes.len() - 1], &bytes[..8]] {
+            let path = folder.file("sheet", lent);
+            assert_eq!(failure(&["check-panel", &path]), format!("{rule}{counts}\n"));
+        }
+        text(&["show-sheet", &folder.file("sheet", &bytes)]); // the desk takes it
+    }
+    assert!(failure(&["check-panel", &folder.path("missing")]).contains("missing: "));
+}
+
+#[test]
+fn refused_files() {
+    let folder = Folder::new("refused");
+    let good = station_k().bytes();
+    let changed = |place: usize, value: u8| {
+        let mut bytes = good.clone();
+        bytes[place] = value;
+        bytes
+    };
+    let cases = [
+        (
+            good[..49].to_vec(),
+            "refused by 1: length: at least 8 bytes, and exactly 8 + 3P + 33R. Here: 49 bytes; P 3, R 1 need 50\n",
+        ),
+        (good[..7].to_vec(), "refused by 1: "),
+        (changed(0, 0), "refused by 2: "),
+        (changed(4, 2), "refused by 3: version: 16 bits, 1. Here: version 2\n"),
+        (changed(7, 0), "refused by 4: "),
+        (changed(16, 2), "refused by 5: turnout record 2: "),
+        (changed(17, 1), "refused by 6: route record 0: "),
+    ];
+    let journal_path = folder.file("journal", journal(&journal_k()));
+    for (bytes, expected) in cases {
+        let path = folder.file("sheet", bytes);
+        let copy = folder.path("copy");
+        let commands = [
+            &["show-sheet", &path][..],
+            &["explain", &path, &journal_path],
+            &["copy-sheet", &path, &copy],
+            &["check-panel", &path],
+        ];
+        for arguments in commands {
+            let said = failure(arguments);
+            assert!(said.starts_with(expected), "{said}");
+        }
+        assert!(!folder.0.join("copy").exists());
+    }
+    let sheet_path = folder.file("sheet", &good);
+    let path = folder.file("short", &journal(&journal_k())[..367]);
+    for arguments in [&["show-journal", &path][..], &["explain", &sheet_path, &path]] {
+        let said = failure(arguments);
+        assert!(said.starts_with("refused by 30: ") && said.contains("367 bytes; count 11 needs 368"), "{said}");
+    }
+}

@@ -1,0 +1,86 @@
+//! Random stations and journals for the program, the same in each run.
+
+use reference::builders::message;
+use reference::drafts::Sheet;
+use reference::message::{Message, RECORD};
+use reference::sheet;
+
+/// Pseudo-random numbers.
+pub struct Random(pub u64);
+
+impl Random {
+    pub fn below(&mut self, limit: u64) -> u64 {
+        self.0 = self.0.wrapping_mul(6364136223846793005).wrapping_add(1442695040888963407);
+        (self.0 >> 33) % limit
+    }
+}
+
+/// Messages near the rules of station K, so that most checks are met now and then.
+pub fn random_records(random: &mut Random, count: u32) -> Vec<[u8; RECORD]> {
+    let mut records = Vec::new();
+    for n in 0..count {
+        let mut pick = |limit: u64| random.below(limit);
+        let some = [0, 0b1, 0b11, 0b11, 0b111, 0b100, 0b1000];
+        let kind = [1, 2, 3, 4, 5, 6, 6, 6, 6, 7, 7, 8, 9, 10, 11, 12, 13, 13][pick(18) as usize];
+        let id = if kind == 12 { 0 } else { 7 + u32::from(pick(8) == 0) };
+        let mut made = message(kind, id).at(10 * n - pick(16).min(10 * u64::from(n)) as u32);
+        made.zone = u8::from(pick(40) == 0);
+        match kind {
+            1 => made = Message { a: some[pick(7) as usize], ..made }.d(0, 1 + pick(2) as u8),
+            4 => made = Message { a: some[pick(7) as usize], b: [0, 0b100][pick(2) as usize], ..made },
+            5 => made = made.d(0, u8::from(pick(8) == 0)),
+            6 => {
+                let details = [
+                    pick(3),
+                    1 + pick(9),
+                    u64::from(pick(6) == 0),
+                    pick(6).saturating_sub(3),
+                    1 + u64::from(pick(4) == 0),
+                    [0, 0, 0, 1, 1, 2][pick(6) as usize],
+                ];
+                made.d = details.map(|detail| detail as u8);
+            }
+            7 => made = made.d(0, 1 + pick(2) as u8),
+            10 => made = Message { a: some[pick(7) as usize], ..made },
+            12 => made = made.d(0, u8::from(pick(4) != 0)),
+            13 => made = made.d(0, pick(3) as u8).d(1, pick(8).clamp(1, 2) as u8),
+            _ => {}
+        }
+        let mut record = made.to_bytes();
+        // A byte at random, but not in time and id: a late time would end the rest by 14, a rare id stand for long.
+        if pick(20) == 0 {
+            record[[0, 10 + pick(22) as usize][pick(2) as usize]] = pick(256) as u8;
+        }
+        records.push(record);
+    }
+    records
+}
+
+/// Crossovers and single turnouts in random zones; routes that put each of them in one of their sets or in none.
+pub fn random_station(random: &mut Random) -> Sheet {
+    let zones = 1 + random.below(8);
+    let mut sheet = Sheet::new(zones as u8);
+    let mut units: Vec<(u64, Vec<u8>)> = Vec::new();
+    for _ in 0..1 + random.below(32) {
+        let (zone, drive, first) = (random.below(zones), random.below(2) as u8, sheet.turnouts.len() as u8);
+        let pair = random.below(2) == 0;
+        sheet = if pair { sheet.crossover(zone as u8, drive) } else { sheet.turnout(zone as u8, drive) };
+        units.push((zone, if pair { vec![first, first + 1] } else { vec![first] }));
+    }
+    for _ in 0..random.below(80) {
+        let (zone, mut sets, mut reverse) = (random.below(zones), [const { Vec::new() }; 4], Vec::new());
+        for (_, turnouts) in units.iter().filter(|(of, _)| *of == zone) {
+            let part = random.below(4) as usize;
+            sets[part].extend(turnouts);
+            if part < 3 && random.below(2) == 0 {
+                reverse.extend(turnouts);
+            }
+        }
+        let [run_over, flank, exit_zone, _] = sets;
+        let with_route = sheet.clone().route(zone as u8, &run_over, &flank, &exit_zone, &reverse);
+        if sheet::read(&with_route.bytes()).is_ok() {
+            sheet = with_route;
+        }
+    }
+    sheet
+}

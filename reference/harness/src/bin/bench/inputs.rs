@@ -1,12 +1,29 @@
-//! What is timed: station K with rising times, and the largest station with a long conversation in all its zones.
+//! What is timed: station K with rising times, the largest station with a long conversation in all its zones, and
+//! sheets of as many routes as turnouts.
 
 use reference::builders;
 use reference::drafts::Sheet;
 use reference::message::{Message, RECORD};
-use reference::{journal, replay, sheet};
+use reference::sheet::{self, ELECTRIC};
+use reference::{journal, replay};
 
 /// Records in each journal.
 pub const RECORDS: usize = 1024;
+
+/// The largest station, its journal, and the journal's accepted records.
+pub struct Inputs {
+    pub large: Vec<u8>,
+    pub talk: Vec<u8>,
+    pub records: Vec<[u8; RECORD]>,
+}
+
+impl Inputs {
+    pub fn largest() -> Inputs {
+        let (large, talk) = (largest_station(), long_talk(RECORDS));
+        let records = accepted(&large, &talk);
+        Inputs { large, talk, records }
+    }
+}
 
 pub fn station_k() -> Vec<u8> {
     builders::station_k().bytes()
@@ -22,11 +39,11 @@ pub fn talk_k() -> Vec<u8> {
 }
 
 /// 8 zones of 4 electric crossovers, and in each zone 8 routes, each over one turnout.
-pub fn largest_station() -> Vec<u8> {
+fn largest_station() -> Vec<u8> {
     let mut sheet = Sheet::new(8);
     for zone in 0..8 {
         for _ in 0..4 {
-            sheet = sheet.crossover(zone, 0);
+            sheet = sheet.crossover(zone, ELECTRIC);
         }
     }
     for route in 0..64 {
@@ -35,10 +52,10 @@ pub fn largest_station() -> Vec<u8> {
     sheet.bytes()
 }
 
-/// A crossover worked on while a train crosses it, in each zone in turn; every message is accepted.
-pub fn long_talk() -> Vec<u8> {
+/// So many records of a crossover worked on while a train crosses it, in each zone in turn; every message is accepted.
+pub fn long_talk(records: usize) -> Vec<u8> {
     let mut all = Vec::new();
-    for i in 0..RECORDS as u32 / 8 + 1 {
+    for i in 0..records as u32 / 8 + 1 {
         let zone = (i % 8) as u8;
         let (a, b) = (8 * zone, 8 * zone + 1);
         let (form, train) = (7 + i, 500 + i);
@@ -56,8 +73,27 @@ pub fn long_talk() -> Vec<u8> {
             .map(|message| message.in_zone(zone).at(i)),
         );
     }
-    all.truncate(RECORDS);
+    all.truncate(records);
     builders::journal(&all)
+}
+
+/// So many turnouts, all in electric crossovers of one zone, and as many routes, each of which names them all: route n
+/// runs over crossover c where c + n leaves 0 or 1 by four, has it as flank where it leaves 2, in its exit zone where it
+/// leaves 3, and has it reverse where c + n is even. So every turnout is looked at for every route.
+pub fn square_station(turnouts: u8) -> Vec<u8> {
+    let crossovers = |route: u8, rests: &[u8]| -> Vec<u8> {
+        (0..turnouts).filter(|turnout| rests.contains(&((turnout / 2 + route) % 4))).collect()
+    };
+    let mut sheet = Sheet::new(1);
+    for _ in 0..turnouts / 2 {
+        sheet = sheet.crossover(0, ELECTRIC);
+    }
+    for n in 0..turnouts {
+        let [run_over, flank, exit_zone, reverse] =
+            [&[0, 1][..], &[2], &[3], &[0, 2]].map(|rests| crossovers(n, rests));
+        sheet = sheet.route(0, &run_over, &flank, &exit_zone, &reverse);
+    }
+    sheet.bytes()
 }
 
 /// Requests for work on the largest station, each refused by 17: its set has turnout 62 without 63. They are all of one

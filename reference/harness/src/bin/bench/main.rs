@@ -1,144 +1,26 @@
 //! Speed of the proved library beside this implementation: the same inputs, in one run, in turn, the least time of many
-//! rounds. It prints nanoseconds for each and their ratio, and the stack that the library's calls take.
+//! rounds. It prints nanoseconds for each and their ratio, how cost grows with the input, and the stack that the
+//! library's calls take.
 
+mod growth;
 mod inputs;
+mod pairs;
 mod stack;
+mod timing;
 
-use harness::{library, trial};
-use reference::message::RECORD;
-use reference::sheet::SheetFault;
-use reference::station::Station;
+use harness::library;
+use inputs::Inputs;
+use reference::replay;
 use reference::unit::{self, DESK};
-use reference::writer::{self, RawStation};
-use reference::{builders, panel, replay, sheet};
 use std::hint::black_box;
-use std::time::Instant;
 
-/// Rounds in which each call is timed once.
-const ROUNDS: usize = 800;
-
-/// Rounds before these, not timed: a processor that was idle takes some time to reach its speed.
-const WARMING: usize = 400;
-
-/// Two calls that do the same work, and how many units of it.
-struct Pair<'a> {
-    name: &'a str,
-    units: usize,
-    library: Box<dyn FnMut() + 'a>,
-    reference: Box<dyn FnMut() + 'a>,
-}
-
-fn nanoseconds(call: &mut dyn FnMut()) -> u128 {
-    let start = Instant::now();
-    call();
-    start.elapsed().as_nanos()
-}
-
-/// The least time of each call over all rounds.
-fn least(pair: &mut Pair) -> (u128, u128) {
-    for _ in 0..WARMING {
-        (pair.library)();
-        (pair.reference)();
-    }
-    let mut best = (u128::MAX, u128::MAX);
-    for _ in 0..ROUNDS {
-        best.0 = best.0.min(nanoseconds(&mut pair.library));
-        best.1 = best.1.min(nanoseconds(&mut pair.reference));
-    }
-    best
-}
-
-fn replayed<'a>(name: &'a str, sheet: &'a [u8], journal: &'a [u8], records: usize) -> Pair<'a> {
-    let mut by_library = vec![0; records * replay::ANSWER];
-    let mut by_reference = by_library.clone();
-    assert_eq!(library::replay(sheet, journal, &mut by_library), replay::replay(sheet, journal, &mut by_reference));
-    assert_eq!(by_library, by_reference);
-    Pair {
-        name,
-        units: records,
-        library: Box::new(move || {
-            black_box(library::replay(black_box(sheet), journal, &mut by_library));
-        }),
-        reference: Box::new(move || {
-            black_box(replay::replay(black_box(sheet), journal, &mut by_reference));
-        }),
-    }
-}
-
-/// All records heard one by one, each over the bytes that the one before left, from a fresh desk on.
-fn one_by_one(records: &[[u8; RECORD]], mut apply: impl FnMut(&mut [u8], &[u8]) -> u8) -> [u8; DESK] {
-    let mut desk = [0; DESK];
-    unit::fresh(&mut desk);
-    for record in records {
-        assert_eq!(apply(&mut desk, record), 0);
-    }
-    desk
-}
-
-/// A unit's messages, of which all are accepted; the reference reads the sheet for each message as the library does, or
-/// has read it before.
-fn units<'a>(name: &'a str, sheet: &'a [u8], records: &'a [[u8; RECORD]], sheet_each_time: bool) -> Pair<'a> {
-    let station = sheet::read(sheet).expect("a good sheet");
-    let by_library =
-        move || one_by_one(records, |desk, record| library::unit_apply(black_box(sheet), desk, record) as u8);
-    let by_reference = move || {
-        one_by_one(records, |desk, record| match sheet_each_time {
-            true => black_box(unit::apply(black_box(sheet), desk, record)).0,
-            false => black_box(unit::apply_at(black_box(&station), desk, record)).0,
-        })
-    };
-    assert_eq!(by_library(), by_reference());
-    Pair {
-        name,
-        units: records.len(),
-        library: Box::new(move || {
-            black_box(by_library());
-        }),
-        reference: Box::new(move || {
-            black_box(by_reference());
-        }),
-    }
-}
-
-/// A good sheet read, by the desk or by the panel.
-fn read<'a>(
-    name: &'a str,
-    sheet: &'a [u8],
-    by_library: fn(&[u8]) -> u32,
-    by_reference: fn(&[u8]) -> Result<Station, SheetFault>,
-) -> Pair<'a> {
-    assert_eq!((by_library(sheet), by_reference(sheet).is_ok()), (0, true));
-    Pair {
-        name,
-        units: 1,
-        library: Box::new(move || {
-            black_box(by_library(black_box(sheet)));
-        }),
-        reference: Box::new(move || {
-            black_box(by_reference(black_box(sheet)).is_ok());
-        }),
-    }
-}
-
-/// A good sheet's station, handed over by its values, written.
-fn written<'a>(name: &'a str, sheet: &[u8]) -> Pair<'a> {
-    let station = RawStation::from(&sheet::read(sheet).expect("a good sheet"));
-    let values = trial::values(&station);
-    let mut by_library = vec![0; sheet.len()];
-    let mut by_reference = by_library.clone();
-    assert_eq!(library::write_sheet(&values, &mut by_library), 0);
-    assert_eq!(writer::write(&trial::station(&values), &mut by_reference), Ok(()));
-    assert_eq!((&by_library[..], &by_reference[..]), (sheet, sheet));
-    Pair {
-        name,
-        units: 1,
-        library: Box::new(move || {
-            black_box(library::write_sheet(black_box(&values), &mut by_library));
-        }),
-        reference: Box::new(move || {
-            black_box(writer::write(&trial::station(black_box(&values)), &mut by_reference).is_ok());
-        }),
-    }
+fn main() {
+    let inputs = Inputs::largest();
+    pairs::table(&inputs);
+    println!();
+    growth::tables(&inputs);
+    println!();
+    stacks(&inputs);
 }
 
 fn show_stack(of: &str, call: &mut dyn FnMut()) {
@@ -149,69 +31,17 @@ fn show_stack(of: &str, call: &mut dyn FnMut()) {
 }
 
 /// The deepest of a replay on the largest station, and of any of its messages heard by a unit.
-fn stacks(sheet: &[u8], journal: &[u8], records: &[[u8; RECORD]]) {
+fn stacks(inputs: &Inputs) {
+    let Inputs { large, talk, records } = inputs;
     let mut answers = vec![0; inputs::RECORDS * replay::ANSWER];
     show_stack("a replay", &mut || {
-        black_box(library::replay(sheet, journal, &mut answers));
+        black_box(library::replay(large, talk, &mut answers));
     });
     let mut desk = [0; DESK];
     unit::fresh(&mut desk);
     show_stack("unit_apply", &mut || {
         for record in records {
-            black_box(library::unit_apply(sheet, &mut desk, record));
+            black_box(library::unit_apply(large, &mut desk, record));
         }
     });
-}
-
-fn verdicts<'a>() -> Pair<'a> {
-    let all =
-        || (1..=3).flat_map(|line| (0..=5).flat_map(move |signal| (0..=63).map(move |flags| (line, signal, flags))));
-    Pair {
-        name: "verdict",
-        units: 1152,
-        library: Box::new(move || {
-            all().for_each(|(line, signal, flags)| {
-                black_box(library::verdict(black_box(line), signal, flags));
-            })
-        }),
-        reference: Box::new(move || {
-            all().for_each(|(line, signal, flags)| {
-                black_box(replay::verdict_numbers(black_box(line), signal, flags));
-            })
-        }),
-    }
-}
-
-fn main() {
-    let (k, talk_k) = (inputs::station_k(), inputs::talk_k());
-    let (large, talk) = (inputs::largest_station(), inputs::long_talk());
-    let split_requests = inputs::split_requests();
-    let panel_sheet = builders::largest_panel_station().bytes();
-    let (records_k, records) = (inputs::accepted(&k, &talk_k), inputs::accepted(&large, &talk));
-    let pairs = [
-        replayed("replay, station K, a message", &k, &talk_k, inputs::RECORDS),
-        replayed("replay, largest station, a message", &large, &talk, inputs::RECORDS),
-        replayed("replay, largest station, a kind 1", &large, &split_requests, inputs::RECORDS),
-        read("largest sheet", &large, library::sheet, sheet::read),
-        read("largest panel sheet", &panel_sheet, library::panel_sheet, panel::read),
-        written("largest sheet written", &large),
-        verdicts(),
-        units("unit_apply, station K, a message", &k, &records_k, true),
-        units("  reference without reading its sheet", &k, &records_k, false),
-        units("unit_apply, largest station, a message", &large, &records, true),
-        units("  reference without reading its sheet", &large, &records, false),
-    ];
-    println!("{:<42} {:>12} {:>12} {:>8}", "", "library ns", "reference ns", "ratio");
-    for mut pair in pairs {
-        let (library, reference) = least(&mut pair);
-        let each = |time: u128| time as f64 / pair.units as f64;
-        println!(
-            "{:<42} {:>12.1} {:>12.1} {:>8.2}",
-            pair.name,
-            each(library),
-            each(reference),
-            library as f64 / reference as f64
-        );
-    }
-    stacks(&large, &talk, &records);
 }

@@ -1,40 +1,110 @@
-//! How much stack a call takes: it runs on painted memory, and the paint shows how deep it wrote.
+//! How much stack a call takes, found without looking into memory: the program runs itself again and again, each time
+//! with more frames taken on a thread's stack before the call, until that run no longer ends well. A call that does
+//! nothing leaves room for more frames; those more are the call's. A run that leaves its stack is ended by the guard
+//! page beneath it: library and reference touch each page on their way down.
 
-const PAINT: u8 = 0xA5;
-const STACK: usize = 256 * 1024;
+use crate::inputs::{Inputs, RECORDS};
+use harness::library;
+use reference::replay::ANSWER;
+use reference::unit::{self, DESK};
+use std::hint::black_box;
+use std::process::{Command, Stdio};
+use std::{env, ptr, thread};
 
-/// Memory for a stack, aligned as a call expects it.
-#[repr(align(16))]
-struct Painted([u8; STACK]);
+/// The stack of the thread on which a run makes the call.
+const STACK: usize = 128 * 1024;
 
-extern "C" fn run(call: &mut &mut dyn FnMut()) {
-    call();
-}
+/// What each frame holds; it takes some bytes more.
+const HELD: usize = 64;
 
-/// Bytes of stack from the return address of the call to the deepest byte that it wrote; its closure's frame counts.
-#[cfg(target_arch = "x86_64")]
-pub fn depth(mut call: &mut dyn FnMut()) -> Option<usize> {
-    let mut painted = Box::new(Painted([PAINT; STACK]));
-    let end = painted.0.as_mut_ptr_range().end;
-    // Safety: the memory is ours and large enough, nothing else runs on it, and `run` returns, so that the stack pointer
-    // kept in r12 (which a C call leaves as it was) comes back.
-    unsafe {
-        std::arch::asm!(
-            "mov r12, rsp",
-            "mov rsp, {end}",
-            "call {run}",
-            "mov rsp, r12",
-            end = in(reg) end,
-            run = sym run,
-            in("rdi") &mut call,
-            out("r12") _,
-            clobber_abi("C"),
-        );
+const NOTHING: &str = "nothing";
+const CALLS: [&str; 2] = ["replay", "unit_apply"];
+
+/// Prints the stack of each call: the deepest of a replay on the largest station, and of any of its messages heard by a
+/// unit.
+pub fn lines() {
+    for call in CALLS {
+        match most_taken(call) {
+            Some(bytes) => println!("stack of {call}: at most {bytes} bytes"),
+            None => println!("stack of {call}: not measured, the program could not run itself"),
+        }
     }
-    painted.0.iter().position(|&byte| byte != PAINT).map(|untouched| STACK - untouched)
 }
 
-#[cfg(not(target_arch = "x86_64"))]
-pub fn depth(_: &mut dyn FnMut()) -> Option<usize> {
-    None
+/// Bytes that the call takes beyond one that does nothing, rounded up to whole frames.
+fn most_taken(call: &str) -> Option<usize> {
+    let frames = most_frames(NOTHING)? + 1 - most_frames(call)?;
+    Some(frames * frame_size())
+}
+
+/// The most frames with which the call ends well.
+fn most_frames(call: &str) -> Option<usize> {
+    if !ends_well(call, 0) {
+        return None;
+    }
+    let (mut good, mut bad) = (0, STACK / HELD);
+    while bad - good > 1 {
+        let middle = (good + bad) / 2;
+        match ends_well(call, middle) {
+            true => good = middle,
+            false => bad = middle,
+        }
+    }
+    Some(good)
+}
+
+/// Runs this program for the call with so many frames before it.
+fn ends_well(call: &str, frames: usize) -> bool {
+    let run = |program| Command::new(program).args(["stack", call, &frames.to_string()]).stderr(Stdio::null()).status();
+    env::current_exe().and_then(run).is_ok_and(|status| status.success())
+}
+
+/// Such a run: the call on a thread of its own, beneath so many frames. It is ended from outside where the stack is too
+/// small.
+pub fn run_beneath(call: &str, frames: usize) {
+    let mut call = call_by_name(call);
+    let on_thread = move || {
+        beneath(frames, &mut *call);
+    };
+    let thread = thread::Builder::new().stack_size(STACK).spawn(on_thread).expect("a thread");
+    thread.join().expect("the call ends");
+}
+
+fn call_by_name(name: &str) -> Box<dyn FnMut() + Send> {
+    let Inputs { large, talk, records } = Inputs::largest();
+    let mut answers = vec![0; RECORDS * ANSWER];
+    let mut desk = [0; DESK];
+    unit::fresh(&mut desk);
+    match name {
+        "replay" => Box::new(move || {
+            black_box(library::replay(&large, &talk, &mut answers));
+        }),
+        "unit_apply" => Box::new(move || {
+            for record in &records {
+                black_box(library::unit_apply(&large, &mut desk, record));
+            }
+        }),
+        _ => Box::new(|| {}),
+    }
+}
+
+/// The call beneath so many frames and one; where the last of them holds its bytes.
+#[inline(never)]
+fn beneath(frames: usize, call: &mut dyn FnMut()) -> usize {
+    let held = black_box([0u8; HELD]);
+    let last = match frames.checked_sub(1) {
+        Some(fewer) => beneath(fewer, call),
+        None => {
+            call();
+            ptr::from_ref(&held).addr()
+        }
+    };
+    black_box(&held);
+    last
+}
+
+/// Bytes between a frame and the next.
+fn frame_size() -> usize {
+    let of = |frames: usize| beneath(frames, &mut || {});
+    of(0).abs_diff(of(1))
 }

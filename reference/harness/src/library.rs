@@ -1,5 +1,8 @@
 //! The C interface of the proved library, and safe calls over it. `trial_write_sheet` and `trial_splits` are of no
 //! shipped archive: they are there for the comparison, since no other call takes a station that no sheet gave.
+//! The only file with unsafe code.
+
+#![allow(unsafe_code)]
 
 use crate::trial::VALUES;
 use reference::message::Message;

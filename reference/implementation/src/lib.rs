@@ -1,6 +1,8 @@
 //! The turnout works desk, written a second time from documents 01 and 02 alone.
 //! Used to test the proved library: by stored cases (`vectors`) and side by side (`differential`).
 
+#![forbid(unsafe_code)]
+
 pub mod builders;
 pub mod clearance;
 pub mod crossover;

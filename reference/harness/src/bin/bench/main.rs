@@ -2,6 +2,8 @@
 //! rounds. It prints nanoseconds for each and their ratio, how cost grows with the input, and the stack that the
 //! library's calls take. `bench stack CALL FRAMES` is a run that it starts itself to find that stack.
 
+#![deny(unsafe_code)]
+
 mod growth;
 mod inputs;
 mod pairs;

@@ -2,6 +2,8 @@
 //! Stops at the first difference (exit 1), and leaves `sheet` and `journal` in the folder `difference`; of a pair
 //! of lists, also `journal-2`.
 
+#![deny(unsafe_code)]
+
 mod compare;
 mod crossover_lists;
 mod crossover_stations;

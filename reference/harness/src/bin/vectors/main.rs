@@ -1,6 +1,8 @@
 //! Writes the stored cases: `vectors FOLDER` puts the files `cases` and `stdout` there.
 //! Every case states the code it is about; the program stops if this implementation gives another.
 
+#![deny(unsafe_code)]
+
 mod both_ends;
 mod cases;
 mod copies;

@@ -44,8 +44,7 @@ impl Files<'_> {
         }
         Err(Difference {
             call: call(),
-            library: format!("{library:?}"),
-            reference: format!("{reference:?}"),
+            answers: vec![("library", format!("{library:?}")), ("reference", format!("{reference:?}"))],
             sheet: self.sheet.to_vec(),
             journals: vec![self.journal.to_vec()],
         })
@@ -105,8 +104,7 @@ impl Comparison {
         self.damaged_desks(files, &talk, &desk, &unit)?;
         let accepted = demand::check(&heard, &desk).map_err(|fault| Difference {
             call: format!("demand 3, {fault}"),
-            library: "(not called)".into(),
-            reference: "breaks it".into(),
+            answers: vec![("reference", "breaks it".into())],
             sheet: good.clone(),
             journals: vec![journal.clone()],
         })?;

@@ -36,11 +36,11 @@ use compare::Comparison;
 use std::path::Path;
 use std::{env, fs, io, process};
 
-/// A call that the two answer differently, and the files to replay it from.
+/// Two answers that should be the same, and the files to replay them from.
 pub struct Difference {
     pub call: String,
-    pub library: String,
-    pub reference: String,
+    /// Each with whose it is: library and reference, or two lists, heard by one of these.
+    pub answers: Vec<(&'static str, String)>,
     pub sheet: Vec<u8>,
     /// One, or two where two lists were heard.
     pub journals: Vec<Vec<u8>>,
@@ -81,8 +81,7 @@ fn run(comparison: &mut Comparison, count: u64) -> Result<(), Difference> {
 fn show(difference: &Difference, comparison: &Comparison, seed: u64) {
     println!("difference, seed {seed}, after {} inputs and {} lists", comparison.tally.inputs, comparison.tally.lists);
     println!("call: {}", difference.call);
-    println!("library: {}", difference.library);
-    println!("reference: {}", difference.reference);
+    difference.answers.iter().for_each(|(side, answer)| println!("{side}: {answer}"));
     match leave(difference) {
         Ok(files) => println!("left in the folder difference: {}", files.join(", ")),
         Err(error) => println!("difference: {error}"),

@@ -19,7 +19,7 @@ const ROUNDS: u64 = 5;
 
 /// The two lists of a pair, and the zone's messages alone.
 type Lists<'p> = [Vec<&'p [u8]>; 3];
-const NAMES: [&str; 3] = ["the first list", "the second", "its messages alone"];
+const NAMES: [&str; 3] = ["first list", "second list", "its messages alone"];
 
 /// A journal replayed by the library.
 struct ByJournal<'p> {
@@ -134,13 +134,16 @@ impl<'p> Trial<'p> {
         let of = |n: usize| given(&heard[n], &self.lists[n], station, zone, self.trains.iter().copied());
         let all = [of(0), of(1), of(2)];
         for (name, other) in NAMES.iter().zip(&all).skip(1) {
-            // The two lines that a difference prints are then of the two lists, in this order.
-            let call = |what: &str| format!("separation, {by}: {what} of zone {zone}, by {} and by {name}", NAMES[0]);
-            self.files().same(|| call("codes and minutes"), &all[0].answers, &other.answers)?;
-            self.files().same(|| call("movement questions (train, answer)"), &all[0].movements, &other.movements)?;
-            self.files().same(|| call("work questions (turnout, answer)"), &all[0].works, &other.works)?;
+            let call = |what: &str| format!("separation, {by}: {what} of zone {zone}");
+            self.same_given(call, &all[0], other).map_err(|difference| between([NAMES[0], name], difference))?;
         }
         Ok(all)
+    }
+
+    fn same_given(&self, call: impl Fn(&str) -> String, one: &Given, other: &Given) -> Result<(), Difference> {
+        self.files().same(|| call("codes and minutes"), &one.answers, &other.answers)?;
+        self.files().same(|| call("movement questions (train, answer)"), &one.movements, &other.movements)?;
+        self.files().same(|| call("work questions (turnout, answer)"), &one.works, &other.works)
     }
 
     /// The library's way of hearing on its own, this implementation on its own, then one against the other: all
@@ -149,7 +152,7 @@ impl<'p> Trial<'p> {
         let by_library = self.given(by, library)?;
         let by_reference = self.given("this implementation", here)?;
         for (n, name) in NAMES.iter().enumerate() {
-            let call = |what: &str| format!("separation, {by}: {what}, by {name}");
+            let call = |what: &str| format!("separation, {by}: {what}, {name}");
             self.files().same(|| call("codes and minutes"), library[n].answers(), here[n].answers())?;
             self.files().same(|| call("questions of the zone"), &by_library[n], &by_reference[n])?;
         }
@@ -174,7 +177,7 @@ impl Comparison {
         let units = trial.heard_by(|list| ByUnit::of(&pair.sheet, list));
         let given = trial.check("unit_apply", &units, &here)?;
         for ((unit, here), name) in units.iter().zip(&here).zip(NAMES) {
-            let call = || format!("separation, unit_apply: the desk after {name}");
+            let call = || format!("separation, unit_apply: the desk, {name}");
             trial.files().same(call, &unit.desk[..], &unit::encode(&here.desk)[..])?;
         }
         units.iter().flat_map(Heard::answers).for_each(|(code, _)| self.tally.unit(*code));
@@ -188,6 +191,12 @@ impl Comparison {
         let journals = trial.heard_by(|list| ByJournal::of(&pair.sheet, list));
         trial.check("desk_replay", &journals, &here).map(|_| ())
     }
+}
+
+/// The difference with its answers under the names of these lists.
+fn between(lists: [&'static str; 2], difference: Difference) -> Difference {
+    let answers = difference.answers.into_iter().map(|(_, answer)| answer);
+    Difference { answers: lists.into_iter().zip(answers).collect(), ..difference }
 }
 
 /// The records of 32 bytes as a journal.

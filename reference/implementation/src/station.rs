@@ -85,8 +85,8 @@ mod tests {
     use crate::builders::station_k;
     use crate::sheet;
 
-    /// A partner not below P reads as none. In a station that no sheet gave, a turnout that names itself or is not named
-    /// back has one.
+    /// A partner not below P reads as none. In a station that no sheet gave, a turnout that names itself or is not
+    /// named back has one.
     #[test]
     fn turnouts_with_a_partner() {
         let k = sheet::read(&station_k().bytes()).expect("station K reads");

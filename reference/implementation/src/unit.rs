@@ -150,7 +150,8 @@ pub fn fresh(bytes: &mut [u8]) -> u8 {
     0
 }
 
-/// Hears a record: the sheet's number, 61, or the desk's answer; the minutes. A refusal leaves the bytes and has no minutes.
+/// Hears a record: the sheet's number, 61, or the desk's answer; the minutes. A refusal leaves the bytes and has no
+/// minutes.
 pub fn apply(sheet: &[u8], bytes: &mut [u8], record: &[u8]) -> (u8, u32) {
     match sheet::read(sheet) {
         Ok(station) => apply_at(&station, bytes, record),

@@ -12,7 +12,8 @@ fn journal_of_station_k() {
     let shown = round_trip("journal_k", "journal", &journal(&journal_k()));
     let lines = [
         "work asked: time 0, zone 0, form 7, turnouts {0,1}, request M.45  # 1",
-        "clearance: time 115, zone 0, train 512, turnout 0, declaration 3, position normal, no clamp, medium voice  # 6",
+        "clearance: time 115, zone 0, train 512, turnout 0, declaration 3, position normal, no clamp, \
+         medium voice  # 6",
     ];
     assert!(lines.iter().all(|line| shown.lines().any(|shown| shown == *line)), "{shown}");
 }

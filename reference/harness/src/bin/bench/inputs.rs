@@ -78,10 +78,10 @@ pub fn long_talk(records: usize) -> Vec<u8> {
 }
 
 /// So many turnouts, all in electric crossovers of one zone, and as many routes, each of which names them all: route n
-/// runs over crossover c where c + n leaves 0 or 1 by four, has it as flank where it leaves 2, in its exit zone where it
-/// leaves 3, and has it reverse where c + n is even. So every turnout is looked at for every route.
+/// runs over crossover c where c + n leaves 0 or 1 by four, has it as flank where it leaves 2, in its exit zone where
+/// it leaves 3, and has it reverse where c + n is even. So every turnout is looked at for every route.
 pub fn square_station(turnouts: u8) -> Vec<u8> {
-    let crossovers = |route: u8, rests: &[u8]| -> Vec<u8> {
+    let those = |route: u8, rests: &[u8]| -> Vec<u8> {
         (0..turnouts).filter(|turnout| rests.contains(&((turnout / 2 + route) % 4))).collect()
     };
     let mut sheet = Sheet::new(1);
@@ -89,8 +89,7 @@ pub fn square_station(turnouts: u8) -> Vec<u8> {
         sheet = sheet.crossover(0, ELECTRIC);
     }
     for n in 0..turnouts {
-        let [run_over, flank, exit_zone, reverse] =
-            [&[0, 1][..], &[2], &[3], &[0, 2]].map(|rests| crossovers(n, rests));
+        let [run_over, flank, exit_zone, reverse] = [&[0, 1][..], &[2], &[3], &[0, 2]].map(|rests| those(n, rests));
         sheet = sheet.route(0, &run_over, &flank, &exit_zone, &reverse);
     }
     sheet.bytes()

@@ -18,7 +18,7 @@ const STACK: usize = 128 * 1024;
 const HELD: usize = 64;
 
 const NOTHING: &str = "nothing";
-const CALLS: [&str; 2] = ["replay", "unit_apply"];
+const CALLS: [&str; 2] = ["desk_replay", "unit_apply"];
 
 /// Prints the stack of each call: the deepest of a replay on the largest station, and of any of its messages heard by a
 /// unit.
@@ -76,7 +76,7 @@ fn call_by_name(name: &str) -> Box<dyn FnMut() + Send> {
     let mut desk = [0; DESK];
     unit::fresh(&mut desk);
     match name {
-        "replay" => Box::new(move || {
+        "desk_replay" => Box::new(move || {
             black_box(library::replay(&large, &talk, &mut answers));
         }),
         "unit_apply" => Box::new(move || {

@@ -9,7 +9,8 @@ const PASSES: usize = 20;
 /// Rounds of a pair in each pass, in which each call is timed once.
 const ROUNDS: usize = 40;
 
-/// Rounds before these, not timed: a processor that was idle, or did something else, takes some time to reach its speed.
+/// Rounds before these, not timed: a processor that was idle, or did something else, takes some time to reach its
+/// speed.
 const WARMING: usize = 20;
 
 /// Two calls that do the same work, and how many units of it.

@@ -78,8 +78,8 @@ impl Comparison {
         Ok(unit)
     }
 
-    /// A record heard by the library over its bytes and by the reference over its own: the code, all bytes, the minutes.
-    /// Returns the code, and the minutes if it was accepted.
+    /// A record heard by the library over its bytes and by the reference over its own: the code, all bytes, the
+    /// minutes. Returns the code, and the minutes if it was accepted.
     fn apply(
         &mut self,
         files: Files,
@@ -102,8 +102,8 @@ impl Comparison {
         Ok((code, (code == 0).then_some(minutes)))
     }
 
-    /// Desks with changed bytes or of another length: 61 and nothing altered where they are no desk's, else what the desk in
-    /// them answers.
+    /// Desks with changed bytes or of another length: 61 and nothing altered where they are no desk's, else what the
+    /// desk in them answers.
     pub fn damaged_desks(&mut self, files: Files, talk: &Talk, desk: &Desk, bytes: &[u8]) -> Result<(), Difference> {
         for _ in 0..8 {
             let damaged = self.damaged_desk(bytes);

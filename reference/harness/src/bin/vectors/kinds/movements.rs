@@ -49,6 +49,7 @@ pub fn kind_9(c: &mut Cases, y: &[u8]) {
     c.list(0, y, &then(clear_2(), &[cancelled(TRAIN), movement_asked(TRAIN, 0)])); // cancelled, asked anew
     c.list(15, y, &then(two(), &[cancelled(513)])); // another train
     c.list(18, y, &then(clear_2(), &[ordered(TRAIN, CLEAR), cancelled(TRAIN)])); // ordered
-    c.list(22, y, &then(clear_2(), &[cancelled(TRAIN), movement_asked(TRAIN, 0), ordered(TRAIN, DANGER)])); // no clearance left
+    let ordered_anew = [cancelled(TRAIN), movement_asked(TRAIN, 0), ordered(TRAIN, DANGER)];
+    c.list(22, y, &then(clear_2(), &ordered_anew)); // no clearance left
     c.list(15, y, &then(clear_2(), &[ordered(TRAIN, CLEAR), cancelled(1)])); // 15 before 18
 }

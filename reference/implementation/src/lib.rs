@@ -1,5 +1,6 @@
 //! The turnout works desk, written a second time from documents 01 and 02 alone.
-//! Used to test the proved library: by stored cases (`vectors`) and side by side (`differential`).
+//! Used to test the proved library: by stored cases (`vectors`) and side by side (`differential`); the workbench stands
+//! on it.
 
 #![forbid(unsafe_code)]
 

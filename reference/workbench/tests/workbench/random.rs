@@ -17,50 +17,68 @@ impl Random {
 
 /// Messages near the rules of station K, so that most checks are met now and then.
 pub fn random_records(random: &mut Random, count: u32) -> Vec<[u8; RECORD]> {
-    let mut records = Vec::new();
-    for n in 0..count {
-        let mut pick = |limit: u64| random.below(limit);
-        let some = [0, 0b1, 0b11, 0b11, 0b111, 0b100, 0b1000];
-        let kind = [1, 2, 3, 4, 5, 6, 6, 6, 6, 7, 7, 8, 9, 10, 11, 12, 13, 13][pick(18) as usize];
-        let id = if kind == 12 { 0 } else { 7 + u32::from(pick(8) == 0) };
-        let mut made = message(kind, id).at(10 * n - pick(16).min(10 * u64::from(n)) as u32);
-        made.zone = u8::from(pick(40) == 0);
-        match kind {
-            1 => made = Message { a: some[pick(7) as usize], ..made }.d(0, 1 + pick(2) as u8),
-            4 => made = Message { a: some[pick(7) as usize], b: [0, 0b100][pick(2) as usize], ..made },
-            5 => made = made.d(0, u8::from(pick(8) == 0)),
-            6 => {
-                let details = [
-                    pick(3),
-                    1 + pick(9),
-                    u64::from(pick(6) == 0),
-                    pick(6).saturating_sub(3),
-                    1 + u64::from(pick(4) == 0),
-                    [0, 0, 0, 1, 1, 2][pick(6) as usize],
-                ];
-                made.d = details.map(|detail| detail as u8);
-            }
-            7 => made = made.d(0, 1 + pick(2) as u8),
-            10 => made = Message { a: some[pick(7) as usize], ..made },
-            12 => made = made.d(0, u8::from(pick(4) != 0)),
-            13 => made = made.d(0, pick(3) as u8).d(1, pick(8).clamp(1, 2) as u8),
-            _ => {}
-        }
-        let mut record = made.to_bytes();
-        // A byte at random, but not in time and id: a late time would end the rest by 14, a rare id stand for long.
-        if pick(20) == 0 {
-            record[[0, 10 + pick(22) as usize][pick(2) as usize]] = pick(256) as u8;
-        }
-        records.push(record);
-    }
-    records
+    (0..count).map(|n| random_record(random, n)).collect()
 }
+
+/// Record `n`, now and then with a byte at random, but not in time and id: a late time would end the rest by 14, a rare
+/// id stand for long.
+fn random_record(random: &mut Random, n: u32) -> [u8; RECORD] {
+    let mut record = random_message(random, n).to_bytes();
+    let mut pick = |limit: u64| random.below(limit);
+    if pick(20) == 0 {
+        record[[0, 10 + pick(22) as usize][pick(2) as usize]] = pick(256) as u8;
+    }
+    record
+}
+
+fn random_message(random: &mut Random, n: u32) -> Message {
+    let mut pick = |limit: u64| random.below(limit);
+    let kind = [1, 2, 3, 4, 5, 6, 6, 6, 6, 7, 7, 8, 9, 10, 11, 12, 13, 13][pick(18) as usize];
+    let id = if kind == 12 { 0 } else { 7 + u32::from(pick(8) == 0) };
+    let time = 10 * n - pick(16).min(10 * u64::from(n)) as u32;
+    let zone = u8::from(pick(40) == 0);
+    with_fields(random, message(kind, id).at(time).in_zone(zone))
+}
+
+/// The message with sets and details as its kind has them.
+fn with_fields(random: &mut Random, made: Message) -> Message {
+    let mut pick = |limit: u64| random.below(limit);
+    let some = [0, 0b1, 0b11, 0b11, 0b111, 0b100, 0b1000];
+    match made.kind {
+        1 => Message { a: some[pick(7) as usize], ..made }.d(0, 1 + pick(2) as u8),
+        4 => Message { a: some[pick(7) as usize], b: [0, 0b100][pick(2) as usize], ..made },
+        5 => made.d(0, u8::from(pick(8) == 0)),
+        6 => Message { d: random_clearance(random), ..made },
+        7 => made.d(0, 1 + pick(2) as u8),
+        10 => Message { a: some[pick(7) as usize], ..made },
+        12 => made.d(0, u8::from(pick(4) != 0)),
+        13 => made.d(0, pick(3) as u8).d(1, pick(8).clamp(1, 2) as u8),
+        _ => made,
+    }
+}
+
+/// Turnout, declaration, position, clamp, channel, both ends.
+fn random_clearance(random: &mut Random) -> [u8; 6] {
+    let mut pick = |limit: u64| random.below(limit);
+    let details = [
+        pick(3),
+        1 + pick(9),
+        u64::from(pick(6) == 0),
+        pick(6).saturating_sub(3),
+        1 + u64::from(pick(4) == 0),
+        [0, 0, 0, 1, 1, 2][pick(6) as usize],
+    ];
+    details.map(|detail| detail as u8)
+}
+
+/// A zone and its turnouts that stay together: a crossover or one turnout.
+type Unit = (u64, Vec<u8>);
 
 /// Crossovers and single turnouts in random zones; routes that put each of them in one of their sets or in none.
 pub fn random_station(random: &mut Random) -> Sheet {
     let zones = 1 + random.below(8);
     let mut sheet = Sheet::new(zones as u8);
-    let mut units: Vec<(u64, Vec<u8>)> = Vec::new();
+    let mut units: Vec<Unit> = Vec::new();
     for _ in 0..1 + random.below(32) {
         let (zone, drive, first) = (random.below(zones), random.below(2) as u8, sheet.turnouts.len() as u8);
         let pair = random.below(2) == 0;
@@ -68,19 +86,24 @@ pub fn random_station(random: &mut Random) -> Sheet {
         units.push((zone, if pair { vec![first, first + 1] } else { vec![first] }));
     }
     for _ in 0..random.below(80) {
-        let (zone, mut sets, mut reverse) = (random.below(zones), [const { Vec::new() }; 4], Vec::new());
-        for (_, turnouts) in units.iter().filter(|(of, _)| *of == zone) {
-            let part = random.below(4) as usize;
-            sets[part].extend(turnouts);
-            if part < 3 && random.below(2) == 0 {
-                reverse.extend(turnouts);
-            }
-        }
-        let [run_over, flank, exit_zone, _] = sets;
-        let with_route = sheet.clone().route(zone as u8, &run_over, &flank, &exit_zone, &reverse);
+        let zone = random.below(zones);
+        let with_route = with_random_route(random, sheet.clone(), zone, &units);
         if sheet::read(&with_route.bytes()).is_ok() {
             sheet = with_route;
         }
     }
     sheet
+}
+
+fn with_random_route(random: &mut Random, sheet: Sheet, zone: u64, units: &[Unit]) -> Sheet {
+    let (mut sets, mut reverse) = ([const { Vec::new() }; 4], Vec::new());
+    for (_, turnouts) in units.iter().filter(|(of, _)| *of == zone) {
+        let part = random.below(4) as usize;
+        sets[part].extend(turnouts);
+        if part < 3 && random.below(2) == 0 {
+            reverse.extend(turnouts);
+        }
+    }
+    let [run_over, flank, exit_zone, _] = sets;
+    sheet.route(zone as u8, &run_over, &flank, &exit_zone, &reverse)
 }

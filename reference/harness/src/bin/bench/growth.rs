@@ -19,23 +19,23 @@ pub fn tables(inputs: &Inputs) {
     let replays = JOURNALS.iter().zip(&journals).map(|(&records, journal)| {
         replayed(&format!("replay, largest station, {records} records"), &inputs.large, journal, records)
     });
-    table("a record", replays);
+    table("how cost grows: a replay", "a record", replays);
     println!();
     let sheets = SHEETS.map(inputs::square_station);
     let readings = SHEETS.iter().zip(&sheets).map(|(&count, sheet)| Pair {
         units: usize::from(count) * usize::from(count),
         ..read(&format!("sheet of {count} turnouts and {count} routes"), sheet, library::sheet, sheet::read)
     });
-    table("a pair", readings);
+    table("how cost grows: a sheet, turnouts x routes", "a pair", readings);
 }
 
 /// Rows from the least input to the largest; `unit` names what the units are.
-fn table<'a>(unit: &str, pairs: impl Iterator<Item = Pair<'a>>) {
+fn table<'a>(title: &str, unit: &str, pairs: impl Iterator<Item = Pair<'a>>) {
     let mut pairs: Vec<Pair> = pairs.collect();
     let times = least(&mut pairs);
     println!(
-        "{:<42} {:>12} {unit:>9} {:>7} {:>13} {unit:>9} {:>7}",
-        "", "library ns", "growth", "reference ns", "growth"
+        "{title:<42} {:>12} {unit:>9} {:>7} {:>13} {unit:>9} {:>7}",
+        "library ns", "growth", "reference ns", "growth"
     );
     for (n, (pair, row)) in pairs.iter().zip(&times).enumerate() {
         let before = n.checked_sub(1).map(|n| times[n]);

@@ -1,7 +1,7 @@
 //! How much stack a call takes, found without looking into memory: the program runs itself again and again, each time
 //! with more frames taken on a thread's stack before the call, until that run no longer ends well. A call that does
 //! nothing leaves room for more frames; those more are the call's. A run that leaves its stack is ended by the guard
-//! page beneath it: library and reference touch each page on their way down.
+//! page beneath it: the library's calls touch each page on their way down.
 
 use crate::inputs::{Inputs, RECORDS};
 use harness::library;
@@ -17,13 +17,14 @@ const STACK: usize = 128 * 1024;
 /// What each frame holds; it takes some bytes more.
 const HELD: usize = 64;
 
+const REPLAY: &str = "desk_replay";
+const APPLY: &str = "unit_apply";
 const NOTHING: &str = "nothing";
-const CALLS: [&str; 2] = ["desk_replay", "unit_apply"];
 
 /// Prints the stack of each call: the deepest of a replay on the largest station, and of any of its messages heard by a
 /// unit.
 pub fn lines() {
-    for call in CALLS {
+    for call in [REPLAY, APPLY] {
         match most_taken(call) {
             Some(bytes) => println!("stack of {call}: at most {bytes} bytes"),
             None => println!("stack of {call}: not measured, the program could not run itself"),
@@ -31,7 +32,7 @@ pub fn lines() {
     }
 }
 
-/// Bytes that the call takes beyond one that does nothing, rounded up to whole frames.
+/// The most bytes that the call can take beyond one that does nothing, known to a frame.
 fn most_taken(call: &str) -> Option<usize> {
     let frames = most_frames(NOTHING)? + 1 - most_frames(call)?;
     Some(frames * frame_size())
@@ -76,15 +77,16 @@ fn call_by_name(name: &str) -> Box<dyn FnMut() + Send> {
     let mut desk = [0; DESK];
     unit::fresh(&mut desk);
     match name {
-        "desk_replay" => Box::new(move || {
+        REPLAY => Box::new(move || {
             black_box(library::replay(&large, &talk, &mut answers));
         }),
-        "unit_apply" => Box::new(move || {
+        APPLY => Box::new(move || {
             for record in &records {
                 black_box(library::unit_apply(&large, &mut desk, record));
             }
         }),
-        _ => Box::new(|| {}),
+        NOTHING => Box::new(|| {}),
+        _ => panic!("no call that is measured: {name}"),
     }
 }
 

@@ -1,6 +1,9 @@
-//! `workbench`: sheets and journals as text that a person reads and edits, and a journal's answers explained.
+//! `workbench`: sheets and journals as text that a person reads and edits, and as pictures; a journal's answers explained.
 //! This file: arguments, files and exit codes (0 done; 1 refused, bad text or a file's error; 2 usage).
 
+#![forbid(unsafe_code)]
+
+mod draw;
 mod explain;
 mod journal_text;
 mod kinds;
@@ -25,6 +28,7 @@ usage: workbench show-sheet SHEET              the sheet as text
        workbench explain SHEET JOURNAL         each record, its answer and what it leaves, in words
        workbench copy-sheet SHEET OUT          the sheet read, and written again by the writer
        workbench check-panel SHEET             whether the cabin panel takes the sheet
+       workbench draw-sheet SHEET OUT          the station's plan as a picture, SVG
 ";
 
 /// Why a command ends with 1.
@@ -46,6 +50,7 @@ fn main() {
         ["explain", sheet, journal] => explain_files(sheet, journal),
         ["copy-sheet", sheet, out] => copy_sheet(sheet, out),
         ["check-panel", sheet] => check_panel(sheet),
+        ["draw-sheet", sheet, out] => draw_sheet(sheet, out),
         _ => {
             eprint!("{USAGE}");
             process::exit(2);
@@ -127,6 +132,12 @@ fn check_panel(path: &str) -> Result<String, Failure> {
     let bytes = read_file(path)?;
     let station = panel::read(&bytes).map_err(|fault| Failure::Refused(refused::sheet(&bytes, fault)))?;
     Ok(format!("the cabin panel takes the sheet: {}\n", words::station(&station)))
+}
+
+fn draw_sheet(path: &str, out: &str) -> Result<String, Failure> {
+    let bytes = read_file(path)?;
+    let station = sheet::read(&bytes).map_err(|fault| Failure::Refused(refused::sheet(&bytes, fault)))?;
+    write_file(out, draw::sheet(&station).as_bytes())
 }
 
 fn read_file(path: &str) -> Result<Vec<u8>, Failure> {

@@ -1,15 +1,23 @@
-//! Pictures as SVG 1.1, for screen and print: a station's plan. Colours never stand alone: each mark has a shape of
-//! its own.
+//! Pictures as SVG 1.1, for screen and print: a station's plan, a journal over time. Colours never stand alone: each
+//! mark has a shape of its own.
 
+mod bars;
+mod columns;
 mod crossovers;
 mod ink;
+mod journal;
 mod legend;
+mod notes;
+mod placed;
+mod rows;
 mod sheet;
 mod sheet_zone;
 mod svg;
 mod symbols;
+mod table;
 mod text;
 
+pub use journal::draw as journal;
 pub use sheet::draw as sheet;
 
 /// Of every picture.

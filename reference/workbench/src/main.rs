@@ -1,4 +1,5 @@
-//! `workbench`: sheets and journals as text that a person reads and edits, and as pictures; a journal's answers explained.
+//! `workbench`: sheets and journals as text that a person reads and edits, and as pictures; a journal's answers
+//! explained.
 //! This file: arguments, files and exit codes (0 done; 1 refused, bad text or a file's error; 2 usage).
 
 #![forbid(unsafe_code)]
@@ -29,6 +30,8 @@ usage: workbench show-sheet SHEET              the sheet as text
        workbench copy-sheet SHEET OUT          the sheet read, and written again by the writer
        workbench check-panel SHEET             whether the cabin panel takes the sheet
        workbench draw-sheet SHEET OUT          the station's plan as a picture, SVG
+       workbench draw-journal SHEET JOURNAL OUT
+                                               what the zones hold record by record, as a picture, SVG
 ";
 
 /// Why a command ends with 1.
@@ -51,6 +54,7 @@ fn main() {
         ["copy-sheet", sheet, out] => copy_sheet(sheet, out),
         ["check-panel", sheet] => check_panel(sheet),
         ["draw-sheet", sheet, out] => draw_sheet(sheet, out),
+        ["draw-journal", sheet, journal, out] => draw_journal(sheet, journal, out),
         _ => {
             eprint!("{USAGE}");
             process::exit(2);
@@ -138,6 +142,13 @@ fn draw_sheet(path: &str, out: &str) -> Result<String, Failure> {
     let bytes = read_file(path)?;
     let station = sheet::read(&bytes).map_err(|fault| Failure::Refused(refused::sheet(&bytes, fault)))?;
     write_file(out, draw::sheet(&station).as_bytes())
+}
+
+fn draw_journal(sheet_path: &str, journal_path: &str, out: &str) -> Result<String, Failure> {
+    let (sheet, journal) = (read_file(sheet_path)?, read_file(journal_path)?);
+    let station = sheet::read(&sheet).map_err(|fault| Failure::Refused(refused::sheet(&sheet, fault)))?;
+    let drawn = draw::journal(&station, &journal).map_err(|_| Failure::Refused(refused::journal(&journal)))?;
+    write_file(out, drawn.as_bytes())
 }
 
 fn read_file(path: &str) -> Result<Vec<u8>, Failure> {

@@ -1,4 +1,4 @@
-//! The program `workbench`, run on files: pictures of sheets. Those kept in `docs/pictures` are what it draws.
+//! The program `workbench`, run on files: pictures of sheets and journals.
 
 use reference::builders::*;
 use std::path::{Path, PathBuf};
@@ -58,10 +58,24 @@ fn sheet_of_station_k() {
 }
 
 #[test]
-fn refused_sheet() {
+fn journal_of_station_k() {
+    let files = [kept("examples/station-k/sheet"), kept("examples/station-k/journal")];
+    let picture = drawn("journal_k", "draw-journal", &[&files[0], &files[1]]);
+    assert!(picture.contains(">Journal: 11 records; station of 3 turnouts, 1 route, 1 zone</text>"), "{picture}");
+    let refused = ["refused by 22: the regime is held, {0} without a clearance or a key", "refused by 19: "];
+    assert!(refused.iter().all(|words| picture.contains(words)), "{picture}");
+}
+
+#[test]
+fn refused_files() {
     let folder = folder("refused");
-    let sheet = file(&folder, "sheet", &station_k().bytes()[..49]);
+    let good = [file(&folder, "sheet", station_k().bytes()), file(&folder, "journal", journal(&journal_k()))];
+    let sheet = file(&folder, "bad_sheet", &station_k().bytes()[..49]);
+    let bad = file(&folder, "bad_journal", &journal(&journal_k())[..100]);
     assert!(refused("refused_sheet", "draw-sheet", &[&sheet]).starts_with("refused by 1: "));
+    assert!(refused("refused_sheet", "draw-journal", &[&sheet, &good[1]]).starts_with("refused by 1: "));
+    assert!(refused("refused_journal", "draw-journal", &[&good[0], &bad]).starts_with("refused by 30: "));
+    assert!(refused("refused_both", "draw-journal", &[&sheet, &bad]).starts_with("refused by 1: "));
 }
 
 #[test]
@@ -78,5 +92,8 @@ fn missing_files() {
 fn usage() {
     for files in [&[][..], &[Path::new("a")], &[Path::new("a"); 3]] {
         assert_eq!(workbench("draw-sheet", files).status.code(), Some(2));
+    }
+    for files in [&[][..], &[Path::new("a"); 2], &[Path::new("a"); 4]] {
+        assert_eq!(workbench("draw-journal", files).status.code(), Some(2));
     }
 }

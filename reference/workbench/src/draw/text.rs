@@ -5,6 +5,7 @@
 enum Anchor {
     Start,
     Middle,
+    End,
 }
 
 /// How text looks: size in pixels, weight, colour, and where its x is.
@@ -34,11 +35,17 @@ impl Face {
         Face { anchor: Anchor::Middle, ..self }
     }
 
+    /// x is the end of the words.
+    pub const fn ending(self) -> Face {
+        Face { anchor: Anchor::End, ..self }
+    }
+
     pub fn attributes(self) -> String {
         let weight = if self.bold { " font-weight=\"bold\"" } else { "" };
         let anchor = match self.anchor {
             Anchor::Start => "",
             Anchor::Middle => " text-anchor=\"middle\"",
+            Anchor::End => " text-anchor=\"end\"",
         };
         format!("font-size=\"{}\" fill=\"{}\"{weight}{anchor}", self.size, self.colour)
     }
@@ -87,7 +94,8 @@ fn width_of(character: char) -> i32 {
         'i' | 'j' | 'l' => 278,
         ' ' | ',' | '.' => 318,
         '(' | ')' | '-' | 't' | ':' | ';' | 'f' | '/' => 392,
-        'r' | 's' | 'c' | 'z' => 550,
+        'r' => 411,
+        's' | 'c' | 'z' => 550,
         'm' | 'w' => 974,
         'M' | 'W' => 989,
         'A'..='Z' => 790,
@@ -108,7 +116,7 @@ mod tests {
             let letters = |text: &str| text.replace(' ', "");
             assert_eq!(letters(&lines.concat()), letters(words));
         }
-        assert_eq!(Face::of(10).lines("train 512, {0,1}", 50), ["train", "512,", "{0,1}"].map(String::from));
+        assert_eq!(Face::of(10).lines("train 512, {0,1}", 45), ["train", "512,", "{0,1}"].map(String::from));
     }
 
     #[test]

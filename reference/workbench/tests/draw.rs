@@ -1,4 +1,5 @@
-//! The program `workbench`, run on files: pictures of sheets and journals.
+//! The program `workbench`, run on files: pictures of sheets and journals. Those kept in `docs/pictures` are what it
+//! draws.
 
 use reference::builders::*;
 use std::path::{Path, PathBuf};
@@ -64,6 +65,20 @@ fn journal_of_station_k() {
     assert!(picture.contains(">Journal: 11 records; station of 3 turnouts, 1 route, 1 zone</text>"), "{picture}");
     let refused = ["refused by 22: the regime is held, {0} without a clearance or a key", "refused by 19: "];
     assert!(refused.iter().all(|words| picture.contains(words)), "{picture}");
+}
+
+/// Drawn anew: `workbench draw-sheet examples/station-k/sheet docs/pictures/station-k-sheet.svg`, and likewise
+/// `draw-journal`.
+#[test]
+fn pictures_kept() {
+    let (sheet, journal) = (kept("examples/station-k/sheet"), kept("examples/station-k/journal"));
+    let pictures = [
+        ("docs/pictures/station-k-sheet.svg", drawn("kept_sheet", "draw-sheet", &[&sheet])),
+        ("docs/pictures/station-k-journal.svg", drawn("kept_journal", "draw-journal", &[&sheet, &journal])),
+    ];
+    for (name, picture) in pictures {
+        assert!(fs::read_to_string(kept(name)).expect("kept") == picture, "{name} is not what the program draws");
+    }
 }
 
 #[test]

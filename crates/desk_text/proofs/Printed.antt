@@ -1,4 +1,4 @@
--- Laws of the text: it is what document 01 says, and it is never cut.
+-- Laws of the text: it is what PROGRAM-1 and PROGRAM-2 (docs/RULES.md) say, and it is never cut.
 use mathlib.Core.Bool.{Bool, true, false}
 use mathlib.Core.List.{List, [], _∷_, _++_}
 use mathlib.Core.Path.{_≡_, refl, _∙_}
@@ -36,7 +36,7 @@ room-enough journal =
     let enough : answerPlace (counted journal) ≤ 5120 = omega (arith, most) in
     rw length-room (le-ltb 5120 (answerPlace (counted journal)) enough)
 
--- what is printed is what document 01 says: there is always room for the answers
+-- what is printed is what PROGRAM-1 and PROGRAM-2 say: there is always room for the answers
 pub prints : (sheet journal : List ℕ) → printed sheet journal ≡ asWritten sheet journal
 unfolding printed asWritten replayed textOf
 prints sheet journal = go (eqb (readSheet sheet .code) 0) refl (eqb (journalNumber journal) 0) refl

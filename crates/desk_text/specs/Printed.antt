@@ -1,4 +1,4 @@
--- What the desk program prints: document 01, 'Station K'.
+-- What the desk program prints: PROGRAM-1 and PROGRAM-2 (docs/RULES.md).
 use mathlib.Core.Bool.{cond, not}
 use mathlib.Core.List.{List, [], _∷_, _++_}
 use Prim.Native.Nat.{ℕ}
@@ -19,9 +19,9 @@ printed sheet journal =
     let a = replayed sheet journal room in
     textOf (a .code) (a .bytes) (counted journal)
 
--- "prints per record: its number from 1, the code, the minutes. A refused sheet, else a refused
--- journal, prints only its refusal number, on one line." The law `prints` says that `printed` is
--- this.
+-- PROGRAM-1, PROGRAM-2: "prints per record: its number from 1, the code, the minutes. A refused
+-- sheet, else a refused journal, prints only its refusal number, on one line." The law `prints`
+-- says that `printed` is this.
 unfoldable pub asWritten : List ℕ → List ℕ → List ℕ
 asWritten sheet journal =
     cond (not (eqb (readSheet sheet .code) 0)) (decimal (readSheet sheet .code) ++ (10 ∷ []))

@@ -1,4 +1,4 @@
-// What the desk program prints of a sheet and a journal (document 01, 'Station K'). The text is in
+// What the desk program prints of a sheet and a journal (PROGRAM-1 and PROGRAM-2 of docs/RULES.md). The text is in
 // specs/Printed.antt; proofs/Printed.antt has that there is always room for the answers, and that a buffer of ROOM
 // bytes holds the whole text.
 ghost use mathlib.Core.Path.{_≡_};

@@ -1,4 +1,4 @@
--- Numbers in bytes. Document 01: "Multi-byte numbers are big-endian".
+-- Numbers in bytes. SET-3 (docs/RULES.md): "Multi-byte numbers are big-endian".
 use mathlib.Core.List.{List, [], _∷_}
 use Prim.Native.Nat.{ℕ, zero, suc, _+_, _*_, _/_, _%_, _^_, _<_}
 use lib.ListN.{length, getD, set}
@@ -8,12 +8,12 @@ use lib.Seq.{sets}
 abbrev pub Bytes : List ℕ → Type 0
 Bytes s = (i : ℕ) → getD s i 0 < 256
 
--- the number that the bytes are, the first the most significant
+-- SET-3: the number that the bytes are, the first the most significant
 abbrev pub beValue : List ℕ → ℕ
 beValue [] = 0
 beValue (b ∷ bs) = b * 256 ^ length bs + beValue bs
 
--- the w bytes of the number n, the most significant first
+-- SET-3: the w bytes of the number n, the most significant first
 abbrev pub beBytes : ℕ → ℕ → List ℕ
 beBytes zero n = []
 beBytes (suc w) n = n / 256 ^ w % 256 ∷ beBytes w n

@@ -1,5 +1,6 @@
-// Big-endian numbers of 16, 32 and 64 bits at any place of a buffer. Every function is total: a byte past the end
-// reads as 0 and is not stored. The rules are in specs/BigEndian.antt, the laws over the width in proofs/.
+// Big-endian numbers of 16, 32 and 64 bits at any place of a buffer: SET-3 (docs/RULES.md). Every function is total: a
+// byte past the end reads as 0 and is not stored. The rules are in specs/BigEndian.antt, the laws over the width in
+// proofs/.
 ghost use mathlib.Core.Path.{_≡_};
 ghost use Rattle.bigendian.specs.BigEndian.{byteAt, withByte, numberAt, storedAt};
 

@@ -1,5 +1,6 @@
--- The desk: its zones, hearing a message, hearing bytes as a record. Document 01, 'Message record'
--- and the order of all checks: 10, 11, 13, 12, 14, then those of the kind.
+-- The desk: its zones, hearing a message, hearing bytes as a record: HEAR-1 to HEAR-4, ZONE-1 and
+-- ZONE-2 (docs/RULES.md). CALL-4 is the order of all checks: 10, 11, 13, 12, 14, then those of the
+-- kind.
 use mathlib.Core.Bool.{Bool, cond, not}
 use mathlib.Core.List.{List}
 use Prim.Native.Nat.{ℕ}
@@ -19,14 +20,14 @@ use Rattle.rules.specs.Kinds.{heard, heardOn}
 use Rattle.desk.specs.declared.Desk.{Desk}
 use Rattle.desk.specs.declared.Applied.{Applied}
 
--- "A fresh desk has no work and no movement in any zone, recorders working, times 0."
+-- ZONE-2: "A fresh desk has no work and no movement in any zone, recorders working, times 0."
 unfoldable pub freshDesk : Desk
 freshDesk = record { zones = replicate 8 freshZone }
 
 abbrev pub zoneAt : Desk → ℕ → Zone
 zoneAt d n = getD (d .zones) n noZone
 
--- a refusal: "nothing altered"
+-- a refusal, CALL-3: "nothing altered"
 abbrev pub refusedBy : Desk → ℕ → Applied
 refusedBy d number = record { code = number; minutes = 0; desk = d }
 
@@ -38,21 +39,21 @@ putBack d n a = record {
   desk = record { zones = set (d .zones) n (a .zone) };
 }
 
--- 12, "zone not below Z"
+-- HEAR-2: 12, "zone not below Z"
 abbrev pub noSuchZone : Station → Message → Bool
 noSuchZone st m = not (ltb (m .zone) (zoneCount st))
 
--- a message that keeps the field rules: 12, then by its zone
+-- HEAR-2, a message that keeps the field rules: 12, then by its zone
 unfoldable pub reached : Station → Desk → Message → Applied
 reached st d m =
     cond (noSuchZone st m) (refusedBy d 12) (putBack d (m .zone) (heard st (zoneAt d (m .zone)) m))
 
--- "A message that no record carries the desk refuses by 11 or 13, as its record would be"
+-- HEAR-1: "A message that no record carries the desk refuses by 11 or 13, as its record would be"
 unfoldable pub applied : Station → Desk → Message → Applied
 applied st d m = cond (not (eqb (fieldNumber m) 0)) (refusedBy d (fieldNumber m)) (reached st d m)
 
--- "A record is first read into a message, or refused (10, 11, 13, in that order); only then does
--- the desk check 12, 14 and the rest."
+-- HEAR-1: "A record is first read into a message, or refused (10, 11, 13, in that order); only then
+-- does the desk check 12, 14 and the rest."
 unfoldable pub appliedRecord : Station → Desk → List ℕ → Applied
 appliedRecord st d s =
     cond (eqb (readRecord s .code) 0)

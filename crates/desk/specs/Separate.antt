@@ -1,6 +1,6 @@
--- Document 02, M-106, one message at a time: "Two dispatchers share one unit and want to know that
--- neither's traffic touches the other's." What the desk owes a zone, said of two desks that are the
--- same in it.
+-- M-106 (APART-1 and APART-2 of docs/RULES.md), one message at a time: "Two dispatchers share one
+-- unit and want to know that neither's traffic touches the other's." What the desk owes a zone,
+-- said of two desks that are the same in it.
 use mathlib.Core.Bool.{false, _&&_}
 use mathlib.Core.Path.{_≡_}
 use Prim.Native.Nat.{ℕ}

@@ -1,6 +1,7 @@
-// The works desk: it hears messages and records, and answers two questions. The rules are in specs/: Desk.antt
-// (hearing) and Questions.antt; the kinds are in the crate `rules`. Every function takes any station and any desk
-// value. specs/Separate.antt is the law that a message touches its own zone alone.
+// The works desk: it hears messages and records (HEAR-1 to HEAR-4 of docs/RULES.md), and answers two questions (ASK-1
+// to ASK-4). The rules are in specs/: Desk.antt (hearing) and Questions.antt; the kinds are in the crate `rules`. Every
+// function takes any station and any desk value. specs/Separate.antt is the law that a message touches its own zone
+// alone (APART-1, APART-2).
 ghost use mathlib.Core.Path.{_≡_};
 ghost use Prim.Native.Nat.{_<_};
 ghost use Rattle.desk.specs.Desk.{
@@ -23,7 +24,7 @@ use zone::Answer;
 use zone::Regime;
 use zone::Zone;
 
-// The numbers that refuse a message or a question at the desk.
+// The numbers that refuse a message or a question at the desk (HEAR-2, ASK-2, ASK-4).
 pub const NO_SUCH_ZONE: u8 = 12;
 
 pub const NO_SUCH_TURNOUT: u8 = 13;
@@ -60,7 +61,7 @@ impl Desk {
 
     pub const TURNOUTS: usize = station::TURNOUTS;
 
-    // A desk with no work and no movement in any zone, recorders working, times 0.
+    // A desk with no work and no movement in any zone, recorders working, times 0 (ZONE-2, FORM-3).
     pub fn fresh() -> Desk
         ensures { λ r. ⌜ r ≡ freshDesk ⌝ }
     {
@@ -112,7 +113,7 @@ pub fn zone_hears(st: Station, z: Zone, m: Message) -> Answer
     zone_hears_on(st, routes_concerned(st, z, m), z, m)
 }
 
-// A message that keeps the field rules, heard by the desk.
+// A message that keeps the field rules, heard by the desk (HEAR-2).
 fn reach(st: Station, d: Desk, m: Message) -> Applied
     ensures { λ r. ⌜ r ≡ reached st d m ⌝ }
 {
@@ -129,7 +130,7 @@ fn reach(st: Station, d: Desk, m: Message) -> Applied
     }
 }
 
-// A message heard by the desk.
+// A message heard by the desk (HEAR-1).
 pub fn apply(st: Station, d: Desk, m: Message) -> Applied
     ensures { λ r. ⌜ r ≡ applied st d m ⌝ }
 {
@@ -140,7 +141,7 @@ pub fn apply(st: Station, d: Desk, m: Message) -> Applied
     reach(st, d, m)
 }
 
-// Bytes heard by the desk as a record.
+// Bytes heard by the desk as a record (HEAR-1, FORM-1).
 pub fn apply_record(st: Station, d: Desk, s: &[u8]) -> Applied
     ensures { λ r. ⌜ r ≡ appliedRecord st d (now (s .entry)) ⌝ }
 {
@@ -151,7 +152,7 @@ pub fn apply_record(st: Station, d: Desk, s: &[u8]) -> Applied
     reach(st, d, m)
 }
 
-// The answer that refuses the movement question.
+// The answer that refuses the movement question (ASK-2).
 pub fn movement_refused(code: u8) -> MovementAnswer
     ensures { λ r. ⌜ r ≡ movementRefused code ⌝ }
 {
@@ -163,7 +164,7 @@ pub fn movement_refused(code: u8) -> MovementAnswer
     }
 }
 
-// The lowest turnout of a set; 255 if it is empty.
+// The lowest turnout of a set; 255 if it is empty (ASK-1).
 fn lowest_of(s: u64) -> u32
     ensures { λ r. ⌜ r ≡ lowestOf s ⌝ }
 {
@@ -173,7 +174,7 @@ fn lowest_of(s: u64) -> u32
     sets::lowest_of(s)
 }
 
-// The movement question in its zone.
+// The movement question in its zone (ASK-1, ASK-2).
 fn movement_in(st: Station, z: Zone, train: u32) -> MovementAnswer
     ensures { λ r. ⌜ r ≡ movementIn st z train ⌝ }
 {
@@ -192,7 +193,7 @@ fn movement_in(st: Station, z: Zone, train: u32) -> MovementAnswer
     }
 }
 
-// The movement question: may the train go, and under which signals.
+// The movement question: may the train go, and under which signals (ASK-1, ASK-2).
 pub fn query_movement(st: Station, d: Desk, zone: u8, train: u32) -> MovementAnswer
     ensures { λ r. ⌜ r ≡ movementAnswered st d zone train ⌝ }
 {
@@ -204,7 +205,7 @@ pub fn query_movement(st: Station, d: Desk, zone: u8, train: u32) -> MovementAns
     movement_in(st, z, train)
 }
 
-// The work question: is the turnout open to work.
+// The work question: is the turnout open to work (ASK-3, ASK-4).
 pub fn query_work(st: Station, d: Desk, turnout: u8) -> WorkAnswer
     ensures { λ r. ⌜ r ≡ workAnswered st d turnout ⌝ }
 {

@@ -1,5 +1,6 @@
--- A desk as 520 bytes, and the desk that stands in bytes. Numbers are big-endian, as document 01
--- has them; fields that the stage of the work, or a zone without a movement, does not have are 0.
+-- A desk as 520 bytes, UNIT-1 (docs/RULES.md), and the desk that stands in bytes. Numbers are
+-- big-endian (SET-3); fields that the stage of the work, or a zone without a movement, does not
+-- have are 0.
 use mathlib.Core.Bool.{Bool, true, false, cond, _&&_}
 use mathlib.Core.List.{List, [], _∷_, _++_}
 use Prim.Native.Nat.{ℕ, zero, suc, _+_, _*_}
@@ -58,7 +59,7 @@ unfoldable pub lastBytes : Bool → ℕ → ℕ → List ℕ
 lastBytes working time keys =
     cond working 1 0 ∷ (beBytes 4 time ++ (beBytes 8 keys ++ replicate 2 0))
 
--- a zone, 64 bytes
+-- UNIT-1: a zone, 64 bytes
 unfoldable pub zoneBytes : Zone → List ℕ
 unfolding workBytes movementBytes lastBytes
 zoneBytes z =
@@ -71,11 +72,11 @@ unfoldable pub zonesFrom : Desk → ℕ → ℕ → List ℕ
 zonesFrom d k zero = []
 zonesFrom d k (suc n) = zoneBytes (zoneAt d k) ++ zonesFrom d (k + 1) n
 
--- the version, 1, and 7 reserved bytes
+-- UNIT-1: the version, 1, and 7 reserved bytes
 abbrev pub headBytes : List ℕ
 headBytes = 1 ∷ replicate 7 0
 
--- a desk, 520 bytes: the head, then its zones
+-- UNIT-1: a desk, 520 bytes: the head, then its zones
 unfoldable pub deskBytes : Desk → List ℕ
 deskBytes d = headBytes ++ zonesFrom d 0 8
 
@@ -145,6 +146,6 @@ sameBytes [] (y ∷ ys) = false
 sameBytes (x ∷ xs) [] = false
 sameBytes (x ∷ xs) (y ∷ ys) = eqb x y && sameBytes xs ys
 
--- the bytes are those of a desk: of the one that stands in them
+-- UNIT-2: the bytes are those of a desk: of the one that stands in them
 unfoldable pub isDesk : List ℕ → Bool
 isDesk s = sameBytes s (deskBytes (deskIn s))

@@ -1,4 +1,5 @@
-// Whether bytes are a desk's: in each place stands what the zone that is read there is encoded to.
+// Whether bytes are a desk's, UNIT-2 (docs/RULES.md): in each place stands what the zone that is read there is encoded
+// to.
 ghost use mathlib.Core.Path.{_≡_};
 ghost use Rattle.desk_bytes.specs.Encoding.{
   workBytes,

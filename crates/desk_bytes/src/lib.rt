@@ -1,7 +1,6 @@
-// A desk in 520 bytes: its encoding, the desk that stands in bytes, and one zone of it read or
-// stored alone. The layout is in specs/Encoding.antt; proofs/RoundTrip.antt has that a desk,
-// encoded and decoded, is the same desk, proofs/ZonePlaces.antt that a zone stored is put into it.
-// Every function takes any bytes and any desk.
+// A desk in 520 bytes, UNIT-1 (docs/RULES.md): its encoding, the desk that stands in bytes, and one zone of it read or
+// stored alone. The layout is in specs/Encoding.antt; proofs/RoundTrip.antt has that a desk, encoded and decoded, is
+// the same desk, proofs/ZonePlaces.antt that a zone stored is put into it. Every function takes any bytes and any desk.
 ghost use mathlib.Core.Path.{_≡_};
 ghost use Rattle.desk.specs.Desk.{zoneAt};
 ghost use Rattle.desk_bytes.specs.Encoding.{storedDesk, storedZone, deskIn, isDesk};
@@ -14,10 +13,10 @@ mod checking;
 mod reading;
 mod storing;
 
-// The length of a desk in bytes.
+// The length of a desk in bytes (UNIT-1).
 pub const LENGTH: usize = 520;
 
-// Stores a desk at the start of the bytes; a byte past their end is not stored.
+// Stores a desk at the start of the bytes; a byte past their end is not stored (UNIT-1).
 pub fn encode(d: Desk, s: &mut [u8])
     ensures { λ r. ⌜ now (s .exit) ≡ storedDesk (now (s .entry)) d ⌝ }
 {
@@ -56,7 +55,7 @@ pub fn put_zone_at(z: Zone, s: &mut [u8], k: usize)
     }
 }
 
-// Whether the bytes are those of a desk.
+// Whether the bytes are those of a desk (UNIT-2).
 pub fn is_desk(s: &[u8]) -> bool
     ensures { λ r. ⌜ r ≡ isDesk (now (s .entry)) ⌝ }
 {

@@ -1,4 +1,4 @@
-// The desk that stands in bytes: each zone from its place on.
+// The desk that stands in bytes, UNIT-1 (docs/RULES.md): each zone from its place on.
 ghost use mathlib.Core.Path.{_≡_};
 ghost use Prim.Native.Nat.{_<_};
 ghost use Rattle.desk_bytes.specs.Encoding.{workIn, movementIn, zoneIn, deskIn};

@@ -1,4 +1,4 @@
-// Storing a desk in bytes: the head, then each zone from its place on.
+// Storing a desk in bytes, UNIT-1 (docs/RULES.md): the head, then each zone from its place on.
 ghost use mathlib.Core.Path.{_≡_};
 ghost use mathlib.Core.Bool.{cond};
 ghost use lib.Seq.{sets};

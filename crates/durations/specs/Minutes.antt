@@ -1,10 +1,10 @@
--- Minutes from one time to another.
+-- Minutes from one time to another: MINUTES-1 and VALUE-5 (docs/RULES.md).
 use mathlib.Core.Bool.{Bool, cond, _&&_, _||_}
 use Prim.Native.Nat.{ℕ, _+_, _-_, _/_, _%_}
 use lib.Dec.{eqb, ltb}
 
--- document 02, M-103: "The minutes returned with kind 11 go to the nearest whole minute, and an
--- exact half minute goes to the even one". A duration is so many whole minutes and seconds over
+-- MINUTES-1: "The minutes returned with kind 11 go to the nearest whole minute, and an exact half
+-- minute goes to the even one". A duration is so many whole minutes and seconds over
 abbrev pub overHalf : ℕ → Bool
 overHalf over = ltb 30 over
 
@@ -22,7 +22,7 @@ abbrev pub nearestMinute : ℕ → ℕ
 nearestMinute seconds =
     cond (goesUp (seconds / 60) (seconds % 60)) (seconds / 60 + 1) (seconds / 60)
 
--- from an agreement to a restoration; document 01: "an agreement later than the restoration gives 0
+-- from an agreement to a restoration; VALUE-5: "an agreement later than the restoration gives 0
 -- minutes"
 unfoldable pub minutesBetween : ℕ → ℕ → ℕ
 minutesBetween since now = cond (ltb now since) 0 (nearestMinute (now - since))

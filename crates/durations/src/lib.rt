@@ -1,4 +1,5 @@
-// How long a work took, in minutes. The rule is in specs/Minutes.antt, what the documents ask of it in specs/Laws.antt.
+// How long a work took, in minutes: MINUTES-1 and VALUE-5 (docs/RULES.md). The rule is in specs/Minutes.antt, what is
+// asked of it in specs/Laws.antt.
 ghost use mathlib.Core.Path.{_≡_};
 ghost use Rattle.durations.specs.Minutes.{goesUp, nearestMinute, minutesBetween};
 
@@ -10,7 +11,7 @@ fn goes_up(minutes: u32, over: u32) -> bool
     (over > 30) | ((over == 30) & (minutes % 2 == 1))
 }
 
-// The minutes of a duration, to the nearest; an exact half minute goes to the even one.
+// The minutes of a duration, to the nearest; an exact half minute goes to the even one (MINUTES-1).
 fn nearest_minute(seconds: u32) -> u32
     ensures { λ r. ⌜ r ≡ nearestMinute seconds ⌝ }
 {
@@ -21,7 +22,7 @@ fn nearest_minute(seconds: u32) -> u32
     minutes
 }
 
-// Minutes from an agreement to a time, to the nearest; 0 for an agreement that is later.
+// Minutes from an agreement to a time, to the nearest; 0 for an agreement that is later (MINUTES-1, VALUE-5).
 pub fn minutes_between(since: u32, now: u32) -> u32
     ensures { λ r. ⌜ r ≡ minutesBetween since «now» ⌝ }
 {

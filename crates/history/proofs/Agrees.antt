@@ -1,6 +1,6 @@
 -- The exact relation between a zone's state and its history: work, what is open, the movement, what
--- is cleared, each as document 01's history has it. A public law: the theorem, and later ones on
--- zones and journals, stand on it.
+-- is cleared, each as the history (HIST-2 to HIST-8 of docs/RULES.md) has it. A public law: the
+-- theorem, and later ones on zones and journals, stand on it.
 use mathlib.Core.Bool.{Bool, true, false, _||_, and-true, and-false, true≢false}
 use mathlib.Core.List.{List, []}
 use mathlib.Core.Path.{_≡_, refl, sym, ap, _∙_}

@@ -1,4 +1,5 @@
--- One more message of a zone: what becomes of document 01's history, whatever the list.
+-- One more message of a zone: what becomes of the history (HIST-2 to HIST-8 of docs/RULES.md),
+-- whatever the list.
 use mathlib.Core.Bool.{Bool, true, false, cond, not, _&&_, _||_, and-true, and-false, or-true}
 use mathlib.Core.Bool.{or-false, and-assoc}
 use mathlib.Core.List.{List, []}

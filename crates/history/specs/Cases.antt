@@ -1,5 +1,5 @@
--- Cases of the history's words, by hand: the messages that station K's desk accepts, and a route
--- with a turnout in reverse.
+-- Cases of the history's words, HIST-2 to HIST-8 (docs/RULES.md), by hand: the messages that
+-- station K's desk accepts, and a route with a turnout in reverse.
 use mathlib.Core.Bool.{Bool, true, false}
 use mathlib.Core.List.{List, [], _∷_, _++_, map}
 use mathlib.Core.Path.{_≡_}

@@ -1,5 +1,5 @@
--- Demand 3, as one statement over any desk: what holds after every list of hearings from its fresh
--- state, on the station of every sheet that is accepted.
+-- Demand 3, HIST-9 to HIST-12 (docs/RULES.md), as one statement over any desk: what holds after
+-- every list of hearings from its fresh state, on the station of every sheet that is accepted.
 use mathlib.Core.Bool.{true}
 use mathlib.Core.Logic.{_↔_}
 use mathlib.Core.List.{List}
@@ -45,31 +45,32 @@ ours = onDesks hears movementAnswered workAnswered
 
 -- what holds after a list, for a desk on a station
 pub record Holds (D : Model) (st : Station) (inputs : List Input) : Type 0 where
-  -- "No turnout is both open to work and cleared for a train"; document 02, M-105: "and no turnout
-  -- is cleared and open to work together"
+  -- HIST-9: "No turnout is both open to work and cleared for a train"; M-105: "and no turnout is
+  -- cleared and open to work together"
   pub apart :
       (t z z′ : ℕ) → openToWork t (zoneMessages D st inputs z) ≡ true
       → cleared t (zoneMessages D st inputs z′) ≡ true
       → ⊥
-  -- "Asked about any turnout, the desk says yes exactly when that turnout is open to work."
+  -- HIST-10: "Asked about any turnout, the desk says yes exactly when that turnout is open to
+  -- work."
   pub work :
       (t : ℕ) → (D .work st (deskAfter D st inputs) t .yes ≡ true)
       ↔ ((z : ℕ) × (openToWork t (zoneMessages D st inputs z) ≡ true))
-  -- "A standing movement is answered 'signals clear' exactly when each turnout of its route under
-  -- agreed work has .. all efficient", or, by document 02, M-105, its key
+  -- HIST-11: "A standing movement is answered 'signals clear' exactly when each turnout of its
+  -- route under agreed work has .. all efficient", or, by M-105, its key
   pub clear :
       (z : ℕ) (f : Message) (rest : List Message)
       → standing (zoneMessages D st inputs z) ≡ since f rest
       → (D .movement st (deskAfter D st inputs) z (f .id) .regime ≡ Clear)
       ↔ EachWorkedAllowsClear st (zoneMessages D st inputs z) f rest
-  -- "Striking the refused messages from the list gives the same desk, and the messages kept get the
-  -- same answers as before."
+  -- HIST-12: "Striking the refused messages from the list gives the same desk, and the messages
+  -- kept get the same answers as before."
   pub same-desk : deskAfter D st (kept D st (D .fresh) inputs) ≡ deskAfter D st inputs
   pub same-answers :
       answers D st (D .fresh) (kept D st (D .fresh) inputs)
       ≡ keptAnswers D st (D .fresh) inputs
 
--- demand 3 of a desk: "For every station sheet accepted and every list of messages heard from its
+-- DEMAND-3 of a desk: "For every station sheet accepted and every list of messages heard from its
 -- fresh desk"
 abbrev pub Demand3 : Model → Type 0
 Demand3 D =

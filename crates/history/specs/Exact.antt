@@ -1,7 +1,7 @@
--- What the desk keeps of a zone after a list is exactly what the history says of it: what is under
--- agreed work, open and cleared; whether a movement stands, under which train, what has neither a
--- clearance nor a key in it, what has a good clearance and what a key. Both questions look at
--- nothing else.
+-- What both questions look at in a zone after a list is exactly what the history, HIST-2 to HIST-8
+-- (docs/RULES.md), says of it: what is under agreed work, open and cleared; whether a movement
+-- stands, under which train, what has neither a clearance nor a key in it, what has a good
+-- clearance and what a key. Of the clock, the recorder, ids of work and orders it says nothing.
 use mathlib.Core.Bool.{true, false}
 use mathlib.Core.List.{List}
 use mathlib.Core.Path.{_≡_}

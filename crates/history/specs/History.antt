@@ -1,6 +1,6 @@
--- Document 01, 'History, for demand 3': "Over accepted messages of a zone, in order; a 1 or 10
--- names what its a holds, a 6 its d0", and so does a 13 of document 02, M-105. These definitions
--- share nothing with the desk's rules but set membership and the station.
+-- The words of the history, HIST-2 to HIST-8 (docs/RULES.md). HIST-1: "Over accepted messages of a
+-- zone, in order; a 1 or 10 names what its a holds, a 6 its d0", and so does a 13 (M-105). These
+-- definitions share nothing with the desk's rules but set membership and the station.
 use mathlib.Core.Bool.{Bool, true, false, cond, not, _&&_, _||_}
 use mathlib.Core.List.{List}
 use mathlib.Core.Path.{_≡_}
@@ -54,8 +54,8 @@ abbrev pub askedIn : ℕ → Since → Bool
 askedIn t never = false
 askedIn t (since q rest) = has (q .a) t
 
--- "Under agreed work: the last kind 1 names the turnout, a 2 follows it, and after it no 10 naming
--- the turnout and no 11."
+-- HIST-2: "Under agreed work: the last kind 1 names the turnout, a 2 follows it, and after it no 10
+-- naming the turnout and no 11."
 unfoldable pub underAgreedWork : ℕ → List Message → Bool
 underAgreedWork t H = askedIn t (asking H) && lasting t (agreement H)
 
@@ -64,8 +64,8 @@ abbrev pub opened : ℕ → Since → Bool
 opened t never = false
 opened t (since g later) = anyThenNone (opens t) (clears t) later
 
--- "Open to work: under agreed work, with a 4 naming it in a or b after that 2 and no 6 naming it
--- after that 4."
+-- HIST-5: "Open to work: under agreed work, with a 4 naming it in a or b after that 2 and no 6
+-- naming it after that 4."
 unfoldable pub openToWork : ℕ → List Message → Bool
 openToWork t H = underAgreedWork t H && opened t (agreement H)
 
@@ -74,7 +74,7 @@ abbrev pub unlessLeft : Since → Since
 unlessLeft never = never
 unlessLeft (since f rest) = cond (any leaves rest) never (since f rest)
 
--- "Standing: the last 5 has no 8 or 9 after it."
+-- HIST-3: "Standing: the last 5 has no 8 or 9 after it."
 unfoldable pub standing : List Message → Since
 standing H = unlessLeft (afterLast (is 5) H)
 
@@ -82,23 +82,23 @@ abbrev pub clearedAfter : ℕ → Since → Bool
 clearedAfter t never = false
 clearedAfter t (since f rest) = any (clears t) rest
 
--- "Cleared: in a standing movement, a 6 naming the turnout after that 5."
+-- HIST-4: "Cleared: in a standing movement, a 6 naming the turnout after that 5."
 unfoldable pub cleared : ℕ → List Message → Bool
 cleared t H = clearedAfter t (standing H)
 
--- "Of its route: named by the route in that 5's d0."
+-- HIST-6: "Of its route: named by the route in that 5's d0."
 abbrev pub ofItsRoute : Station → Message → ℕ → Bool
 ofItsRoute st f t = has (namedBy (theRoute st (f .d0))) t
 
--- "declaration 1 or 2"; document 02, M-101: "'All efficient' in the history of a movement then also
+-- HIST-7: "declaration 1 or 2"; M-101: "'All efficient' in the history of a movement then also
 -- needs d5 = 1 on a turnout with a partner."
 abbrev pub allEfficient : Station → ℕ → Message → Bool
 allEfficient st t m =
     (eqb (m .d1) 1 || eqb (m .d1) 2) && (not (hasPartner st t) || eqb (m .d5) 1)
 
--- "Clearance for that train, in the route's position, all efficient: after that 5 a 6 naming the
--- turnout, with the same id, d2 1 if in the route's reverse and else 0, declaration 1 or 2", and
--- both ends covered where the turnout has a partner
+-- HIST-7: "Clearance for that train, in the route's position, all efficient: after that 5 a 6
+-- naming the turnout, with the same id, d2 1 if in the route's reverse and else 0, declaration 1 or
+-- 2", and both ends covered where the turnout has a partner
 abbrev pub clearsWell : Station → Message → ℕ → Message → Bool
 clearsWell st f t m =
     clears t m
@@ -106,17 +106,17 @@ clearsWell st f t m =
     && eqb (m .d2) (cond (has (theRoute st (f .d0) .reverse) t) 1 0)
     && allEfficient st t m
 
--- document 02, M-105, a key for that train: after that 5 a 13 naming the turnout, with the same id
+-- HIST-8, a key for that train: after that 5 a 13 naming the turnout, with the same id
 abbrev pub keyFor : Message → ℕ → Message → Bool
 keyFor f t m = is 13 m && eqb (m .d0) t && eqb (m .id) (f .id)
 
--- "either its efficient clearance or its key"
+-- HIST-11: "either its efficient clearance or its key"
 abbrev pub allowsClear : Station → Message → List Message → ℕ → Bool
 allowsClear st f rest t = any (clearsWell st f t) rest || any (keyFor f t) rest
 
--- "each turnout of its route under agreed work has, among the messages accepted since that movement
--- was asked, a clearance for that train in the route's position with rods, lock and detection all
--- efficient", or, by document 02, M-105, its key: of a movement asked by f, the messages H of its
+-- HIST-11: "each turnout of its route under agreed work has, among the messages accepted since that
+-- movement was asked, a clearance for that train in the route's position with rods, lock and
+-- detection all efficient", or, by M-105, its key: of a movement asked by f, the messages H of its
 -- zone and those after f
 abbrev pub EachWorkedAllowsClear : Station → List Message → Message → List Message → Type 0
 EachWorkedAllowsClear st H f rest =

@@ -1,5 +1,5 @@
--- Desks that document 02, M-106, turns down, since a zone shares with another what it should have by
--- itself: the clock, the recorder, the time of the agreement, the answer to each question.
+-- Desks that APART-2 (docs/RULES.md) turns down, since a zone shares with another what it should
+-- have by itself: the clock, the recorder, the time of the agreement, the answer to each question.
 use mathlib.Core.Bool.{cond, not}
 use mathlib.Core.List.{map}
 use Prim.Native.Nat.{ℕ}

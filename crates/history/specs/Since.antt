@@ -1,4 +1,4 @@
--- A message of a list and what follows it: how document 01's section 'History' speaks of a list of
+-- A message of a list and what follows it: how HIST-2 to HIST-8 (docs/RULES.md) speak of a list of
 -- messages, oldest first.
 use mathlib.Core.Bool.{Bool, false, cond, not, _&&_, _||_}
 use mathlib.Core.List.{List, [], _∷_}

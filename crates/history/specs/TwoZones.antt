@@ -1,5 +1,5 @@
--- A station of two zones, for the cases of document 02, M-106: its sheet, and lists that are alike
--- in one zone.
+-- A station of two zones, for the cases of APART-1 and APART-2 (docs/RULES.md): its sheet, and
+-- lists that are alike in one zone.
 use mathlib.Core.List.{List, [], _∷_, _++_, map}
 use Prim.Native.Nat.{ℕ}
 use lib.ListN.{take, drop}

@@ -1,6 +1,6 @@
--- Cases of document 02, M-106, by hand, on the station of two zones: which inputs are messages of a
--- zone, what two lists that are alike in zone 0 give it, and what the desks that share something
--- between zones give a zone.
+-- Cases of APART-1 and APART-2 (docs/RULES.md), by hand, on the station of two zones: which inputs
+-- are messages of a zone, what two lists that are alike in zone 0 give it, and what the desks that
+-- share something between zones give a zone.
 use mathlib.Core.Bool.{Bool, true, false}
 use mathlib.Core.List.{List, [], _∷_, _++_}
 use mathlib.Core.Path.{_≡_}
@@ -52,28 +52,29 @@ ofNoZone =
 
 pub record ZoneCases : Type 0 where
   pub sheet : readSheet sheetTwo .code ≡ 0
-  -- "the messages of one zone and their order", refused ones too, heard as messages or as records
+  -- APART-1: "the messages of one zone and their order", refused ones too, heard as messages or as
+  -- records
   pub messages-0 : belonging 2 0 quiet ≡ conversation
   pub records-0 : belonging 2 0 busy ≡ conversation
   pub messages-1 : belonging 2 1 quiet ≡ []
   pub records-1 : belonging 2 1 busy ≡ others
   pub accepted-0 : zoneMessages ours stationTwo busy 0 ≡ take 2 conversation ++ drop 3 conversation
-  -- "Records refused with 10, 11, 12 or 13 belong to no zone", whatever their zone byte; 12 goes by
-  -- the number of zones
+  -- APART-1: "Records refused with 10, 11, 12 or 13 belong to no zone", whatever their zone byte;
+  -- 12 goes by the number of zones
   pub of-no-zone : belonging 2 0 ofNoZone ≡ []
   pub nor-of-zone-2 : belonging 2 2 ofNoZone ≡ []
   pub third-zone : belonging 3 2 ofNoZone ≡ zone2 ∷ zone2 ∷ []
-  -- alike are lists with the same messages; a refused one counts
+  -- APART-2: alike are lists with the same messages; a refused one counts
   pub alike : Alike stationTwo 0 quiet busy
   pub refused-counts : Alike stationTwo 0 quiet unrefused → ⊥
-  -- "the same codes, minutes", and those of zone 1
+  -- APART-2: "the same codes, minutes", and those of zone 1
   pub answers-quiet : inZone0 ours quiet ≡ restoredIn 2
   pub answers-busy : inZone0 ours busy ≡ restoredIn 2
   pub answers-1 :
       zoneAnswers ours stationTwo 1 freshDesk busy
       ≡ reply 0 0 ∷ reply 0 0 ∷ reply 0 0 ∷ reply 0 0 ∷ reply 0 0 ∷ reply 21 0 ∷ []
-  -- "and question answers": train 512 has gone by in zone 0 and stands in zone 1, where turnout 1 is
-  -- open to work
+  -- APART-2: "and question answers": train 512 has gone by in zone 0 and stands in zone 1, where
+  -- turnout 1 is open to work
   pub movement-0 :
       movementAnswered stationTwo (deskAfter ours stationTwo busy) 0 512 ≡ movementRefused 15
   pub movement-1 :

@@ -1,5 +1,5 @@
-// The number that each kind gives in a zone, the routes that bear on the message being given: its checks after 14, in
-// the written order; 0 where none refuses.
+// The number that each kind gives in a zone, the routes that bear on the message being given: its checks after 14
+// (KIND-1 to KIND-13 of docs/RULES.md), in the written order; 0 where none refuses.
 ghost use mathlib.Core.Path.{_≡_};
 ghost use Rattle.rules.specs.Kinds.{first, row};
 use super::ALREADY_THERE;

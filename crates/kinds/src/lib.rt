@@ -1,5 +1,5 @@
-// The thirteen kinds of message over one zone (document 01's table of kinds; document 02's key used): each is its
-// checks, in the written order, and its effect. The rules are in the crate `rules`, specs/Kinds.antt.
+// The thirteen kinds of message over one zone (KIND-1 to KIND-13 of docs/RULES.md): each is its checks, in the written
+// order, and its effect. The rules are in the crate `rules`, specs/Kinds.antt.
 ghost use mathlib.Core.Path.{_≡_};
 ghost use Rattle.rules.specs.Kinds.{answered, heardOn};
 
@@ -163,7 +163,7 @@ fn key_used(st: Station, routes: Concerned, z: Zone, m: Message) -> Answer
     settle(z, codes::key_used(st, routes, z, m), 0, next)
 }
 
-// A message heard by its zone once 14 is past: the checks and the effect of its kind.
+// A message heard by its zone once 14 is past: the checks and the effect of its kind (HEAR-4).
 fn hear_kind(st: Station, routes: Concerned, z: Zone, m: Message) -> Answer
     ensures { λ r. ⌜ r ≡ answered (m .kind) st routes z m ⌝ }
 {
@@ -186,7 +186,7 @@ fn hear_kind(st: Station, routes: Concerned, z: Zone, m: Message) -> Answer
     }
 }
 
-// A message heard by its zone: 14, then the checks and the effect of its kind.
+// A message heard by its zone: 14, then the checks and the effect of its kind (HEAR-3, HEAR-4).
 pub fn hear(st: Station, routes: Concerned, z: Zone, m: Message) -> Answer
     ensures { λ r. ⌜ r ≡ heardOn st routes z m ⌝ }
 {

@@ -1,4 +1,4 @@
--- The bytes of a station sheet: document 01, 'Station sheet'.
+-- The bytes of a station sheet: SHEET-1, SHEET-2, SHEET-4 and SHEET-10 to SHEET-12 (docs/RULES.md).
 use mathlib.Core.Bool.{Bool, cond, not, _&&_}
 use mathlib.Core.List.{List}
 use Prim.Native.Nat.{ℕ, _+_, _*_}
@@ -11,8 +11,8 @@ use Rattle.station.specs.declared.Route.{Route}
 use Rattle.station.specs.declared.Station.{Station}
 use Rattle.station.specs.Station.{emptyTurnout, emptyRoute}
 
--- "Header, 8 bytes: the letters SPT, version (16 bits, 1), counts P of turnouts .., R of routes ..,
--- Z of zones .., a byte each."
+-- SHEET-1: "Header, 8 bytes: the letters SPT, version (16 bits, 1), counts P of turnouts .., R of
+-- routes .., Z of zones .., a byte each."
 abbrev pub hasMark : List ℕ → Bool
 hasMark s = eqb (getD s 0 0) 83 && eqb (getD s 1 0) 80 && eqb (getD s 2 0) 84
 
@@ -28,7 +28,7 @@ countR s = getD s 6 0
 abbrev pub countZ : List ℕ → ℕ
 countZ s = getD s 7 0
 
--- "version (16 bits, 1)"
+-- SHEET-1: "version (16 bits, 1)"
 abbrev pub versionKept : ℕ → Bool
 versionKept v = eqb v 1
 
@@ -36,19 +36,19 @@ versionKept v = eqb v 1
 abbrev pub withinLimits : ℕ → ℕ → ℕ → ℕ → Bool
 withinLimits turnouts routes p r = leb p turnouts && leb r routes
 
--- "P of turnouts (1 to 64), R of routes (0 to 64), Z of zones (1 to 8)"
+-- SHEET-1: "P of turnouts (1 to 64), R of routes (0 to 64), Z of zones (1 to 8)"
 abbrev pub countsKept : ℕ → ℕ → ℕ → Bool
 countsKept p r z = leb 1 p && withinLimits 64 64 p r && leb 1 z && leb z 8
 
--- "The length is exactly 8 + 3P + 33R."
+-- SHEET-10: "The length is exactly 8 + 3P + 33R."
 abbrev pub sheetLength : ℕ → ℕ → ℕ
 sheetLength p r = 8 + 3 * p + 33 * r
 
 abbrev pub lengthKept : List ℕ → Bool
 lengthKept s = eqb (length s) (sheetLength (countP s) (countR s))
 
--- "Order: under 8 bytes, mark, version, counts (zone byte included), ..": the number of the first
--- that fails, else that of the checks that come after them
+-- SHEET-11: "Order: under 8 bytes, mark, version, counts (zone byte included), ..": the number of
+-- the first that fails, else that of the checks that come after them
 abbrev pub beforeLength : List ℕ → ℕ → ℕ
 beforeLength s later =
     cond (ltb (length s) 8) 1
@@ -57,21 +57,21 @@ beforeLength s later =
     (cond (not (countsKept (countP s) (countR s) (countZ s))) 4
     later)))
 
--- ".. length"
+-- SHEET-11: ".. length"
 abbrev pub lengthNumber : List ℕ → ℕ
 lengthNumber s = cond (not (lengthKept s)) 1 0
 
--- the desk's order: nothing stands between counts and length
+-- SHEET-11, the desk's order: nothing stands between counts and length
 unfoldable pub headerNumber : List ℕ → ℕ
 headerNumber s = beforeLength s (lengthNumber s)
 
--- "turnout records of 3 bytes: zone ..; partner ..; drive ..": the record at an index
+-- SHEET-2: "turnout records of 3 bytes: zone ..; partner ..; drive ..": the record at an index
 abbrev pub turnoutIn : List ℕ → ℕ → Turnout
 turnoutIn s at =
     record { zone = getD s at 0; partner = getD s (at + 1) 0; drive = getD s (at + 2) 0 }
 
--- "routes of 33 bytes: zone, then the sets run over, flank, exit zone, reverse": the record at an
--- index
+-- SHEET-4: "routes of 33 bytes: zone, then the sets run over, flank, exit zone, reverse": the
+-- record at an index
 abbrev pub routeIn : List ℕ → ℕ → Route
 routeIn s at = record {
   zone = getD s at 0;
@@ -87,7 +87,7 @@ turnoutPlace n = 8 + 3 * n
 abbrev pub routePlace : ℕ → ℕ → ℕ
 routePlace p n = 8 + 3 * p + 33 * n
 
--- the station that stands in the bytes; "Records past P and R are 0 in the station."
+-- the station that stands in the bytes; SHEET-12: "Records past P and R are 0 in the station."
 unfoldable pub stationIn : List ℕ → Station
 stationIn s = record {
   turnouts = countP s;

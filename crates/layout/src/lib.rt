@@ -1,5 +1,6 @@
-// The bytes of a station sheet (document 01, 'Station sheet'): its header's number, and the station that stands in
-// them. The rules are in specs/Layout.antt. The crate `sheet` judges the station.
+// The bytes of a station sheet (SHEET-1, SHEET-2, SHEET-4 and SHEET-10 to SHEET-12 of docs/RULES.md): its header's
+// number, and the station that stands in them. The rules are in specs/Layout.antt. The crate `sheet` judges the
+// station.
 ghost use mathlib.Core.Path.{_≡_};
 ghost use Prim.Native.Nat.{_<_};
 ghost use Rattle.layout.specs.Layout.{
@@ -54,28 +55,29 @@ pub fn within_limits(turnouts: u8, routes: u8, p: u8, r: u8) -> bool
     (p <= turnouts) & (r <= routes)
 }
 
-// Whether P, R and Z are in range.
+// Whether P, R and Z are in range (SHEET-1).
 pub fn counts_kept(p: u8, r: u8, z: u8) -> bool
     ensures { λ b. ⌜ b ≡ countsKept p r z ⌝ }
 {
     (1 <= p) & within_limits(64, 64, p, r) & (1 <= z) & (z <= 8)
 }
 
-// Whether a version is one that can be read.
+// Whether a version is one that can be read (SHEET-1).
 fn version_kept(v: u16) -> bool
     ensures { λ r. ⌜ r ≡ versionKept v ⌝ }
 {
     v == 1
 }
 
-// The length of a sheet with so many turnouts and routes.
+// The length of a sheet with so many turnouts and routes (SHEET-10).
 pub fn sheet_length(p: u8, r: u8) -> usize
     ensures { λ n. ⌜ n ≡ sheetLength p r ⌝ }
 {
     HEADER + 3 * (p as usize) + 33 * (r as usize)
 }
 
-// The first number of 1, 2, 3, 4 that fits, by the checks before that of the length; else the one that is given.
+// The first number of 1, 2, 3, 4 that fits, by the checks before that of the length; else the one that is given
+// (SHEET-11).
 pub fn before_length(s: &[u8], later: u8) -> u8
     ensures { λ r. ⌜ r ≡ beforeLength (now (s .entry)) later ⌝ }
 {
@@ -93,7 +95,7 @@ pub fn before_length(s: &[u8], later: u8) -> u8
     first_code(s.len() < HEADER, BAD_LENGTH, mark)
 }
 
-// 0 if there are as many bytes as the counts ask for, else 1.
+// 0 if there are as many bytes as the counts ask for, else 1 (SHEET-10).
 pub fn length_code(s: &[u8]) -> u8
     ensures { λ r. ⌜ r ≡ lengthNumber (now (s .entry)) ⌝ }
 {
@@ -104,7 +106,7 @@ pub fn length_code(s: &[u8]) -> u8
     )
 }
 
-// 0 if the header and the length are good, else the first number of 1, 2, 3, 4, 1 that fits.
+// 0 if the header and the length are good, else the first number of 1, 2, 3, 4, 1 that fits (SHEET-11).
 pub fn header_code(s: &[u8]) -> u8
     ensures { λ r. ⌜ r ≡ headerNumber (now (s .entry)) ⌝ }
 {
@@ -135,7 +137,7 @@ fn route_in(s: &[u8], at: usize) -> Route
     }
 }
 
-// The turnout records, those from p on 0.
+// The turnout records, those from p on 0 (SHEET-2, SHEET-12).
 fn turnouts_in(s: &[u8], p: u8) -> [Turnout; 64]
     ensures { λ r. ⌜ r ≡ places (λ i. turnoutIn (now (s .entry)) (turnoutPlace i)) p emptyTurnout ⌝ }
 {
@@ -149,7 +151,7 @@ fn turnouts_in(s: &[u8], p: u8) -> [Turnout; 64]
     ts
 }
 
-// The route records, those from r on 0.
+// The route records, those from r on 0 (SHEET-4, SHEET-12).
 fn routes_in(s: &[u8], p: u8, r: u8) -> [Route; 64]
     ensures { λ rs. ⌜ rs ≡ places (λ i. routeIn (now (s .entry)) (routePlace p i)) r emptyRoute ⌝ }
 {

@@ -1,6 +1,6 @@
--- The field rules of a message: document 01, 'Message record', and the column 'Fields' of its table
--- of kinds. One number, `fieldNumber`, says what a message gets for its own fields; reader, writer
--- and desk go by it.
+-- The field rules of a message: RECORD-2 to RECORD-4 and the table of fields after them
+-- (docs/RULES.md). One number, `fieldNumber`, says what a message gets for its own fields; reader,
+-- writer and desk go by it.
 use mathlib.Core.Bool.{Bool, true, false, cond, not, _&&_, _||_}
 use mathlib.Core.List.{List, [], _∷_}
 use Prim.Native.Nat.{ℕ}
@@ -30,17 +30,17 @@ pub record Named : Type 0 where
 abbrev pub nothing : Named
 nothing = record { a = false; b = false; spans = [] }
 
--- "d0 turnout 0-63; d1 declaration 1-9; d2 0 normal, 1 reverse; d3 0 no clamp, 1 clamp, 2 attended;
--- d4 1 voice, 2 written"; document 02, M-101: "d5 becomes a field of 0 or 1: 1 says the declaration
--- covers both ends"
+-- RECORD-3, kind 6: "d0 turnout 0-63; d1 declaration 1-9; d2 0 normal, 1 reverse; d3 0 no clamp, 1
+-- clamp, 2 attended; d4 1 voice, 2 written"; M-101: "d5 becomes a field of 0 or 1: 1 says the
+-- declaration covers both ends"
 abbrev pub clearanceSpans : List Span
 clearanceSpans = (0 to 63) ∷ (1 to 9) ∷ (0 to 1) ∷ (0 to 2) ∷ (1 to 2) ∷ (0 to 1) ∷ []
 
--- document 02, M-105: "d0 the turnout (0 to 63), d1 is 1 for Tcl and 2 for Es"
+-- RECORD-3, kind 13: "d0 the turnout (0 to 63), d1 is 1 for Tcl and 2 for Es"
 abbrev pub keySpans : List Span
 keySpans = (0 to 63) ∷ (1 to 2) ∷ []
 
--- the column 'Fields', by kind; there is no kind 0
+-- RECORD-3, the table of fields, by kind; there is no kind 0
 abbrev pub table : List Named
 table =
     nothing
@@ -75,11 +75,12 @@ table =
 unfoldable pub named : ℕ → Named
 named kind = getD table kind nothing
 
--- "Fields not named below are 0": a set that is not named is empty; a set that is named may be any
+-- RECORD-3: "Fields not named below are 0": a set that is not named is empty; a set that is named
+-- may be any
 abbrev pub setKept : Bool → ℕ → Bool
 setKept isNamed s = isNamed || eqb s 0
 
--- each named detail is within its span, each other detail is 0
+-- RECORD-3: each named detail is within its span, each other detail is 0
 abbrev pub detailsKept : List Span → List ℕ → Bool
 detailsKept spans [] = true
 detailsKept [] (d ∷ ds) = eqb d 0 && detailsKept [] ds
@@ -91,7 +92,7 @@ details m = m .d0 ∷ m .d1 ∷ m .d2 ∷ m .d3 ∷ m .d4 ∷ m .d5 ∷ []
 abbrev pub namedKept : Named → Message → Bool
 namedKept n m = setKept (n .a) (m .a) && setKept (n .b) (m .b) && detailsKept (n .spans) (details m)
 
--- "Id is a form number (kinds 1-4, 10, 11) or a train (5-9), not 0; for 12 it is 0"; document 02,
+-- RECORD-2: "Id is a form number (kinds 1-4, 10, 11) or a train (5-9), not 0; for 12 it is 0";
 -- M-105, of kind 13: "id is the train"
 abbrev pub idKept : ℕ → ℕ → Bool
 idKept kind id = cond (eqb kind 12) (eqb id 0) (not (eqb id 0))
@@ -99,11 +100,11 @@ idKept kind id = cond (eqb kind 12) (eqb id 0) (not (eqb id 0))
 unfoldable pub fieldsKept : Message → Bool
 fieldsKept m = idKept (m .kind) (m .id) && namedKept (named (m .kind)) m
 
--- 11, "kind not 1-12", and document 02, M-105: "Kinds now run to 13"
+-- RECORD-4: 11, "kind not 1-12", and M-105: "Kinds now run to 13"
 abbrev pub isKind : ℕ → Bool
 isKind kind = leb 1 kind && leb kind 13
 
--- 11 for a kind that is none, then 13 for a field that breaks its rule; 0 for a message that a
--- record carries
+-- RECORD-4, HEAR-1: 11 for a kind that is none, then 13 for a field that breaks its rule; 0 for a
+-- message that a record carries
 unfoldable pub fieldNumber : Message → ℕ
 fieldNumber m = cond (isKind (m .kind)) (cond (fieldsKept m) 0 13) 11

@@ -1,4 +1,5 @@
--- The 32-byte record of a message, reading and writing: document 01, 'Message record'.
+-- The 32-byte record of a message, reading and writing: RECORD-1, RECORD-4 and RECORD-5
+-- (docs/RULES.md).
 use mathlib.Core.Bool.{cond}
 use mathlib.Core.List.{List, _∷_, _++_}
 use Prim.Native.Nat.{ℕ}
@@ -10,8 +11,8 @@ use Rattle.message.specs.declared.Reading.{Reading}
 use Rattle.message.specs.declared.Reading.the-variants.{Accepted, Refused}
 use Rattle.message.specs.Fields.{details, fieldNumber}
 
--- "Kind (1 byte), zone (1), time in seconds (4), id (4), sets a and b (8 each), details d0 to d5 (a
--- byte each)": the message that stands in the bytes
+-- RECORD-1: "Kind (1 byte), zone (1), time in seconds (4), id (4), sets a and b (8 each), details
+-- d0 to d5 (a byte each)": the message that stands in the bytes
 unfoldable pub decoded : List ℕ → Message
 decoded s = record {
   kind = getD s 0 0;
@@ -28,7 +29,7 @@ decoded s = record {
   d5 = getD s 31 0;
 }
 
--- the 32 bytes of a message: the first 26, then the details
+-- RECORD-1, the 32 bytes of a message: the first 26, then the details
 unfoldable pub headBytes : Message → List ℕ
 headBytes m =
     m .kind ∷ m .zone
@@ -65,12 +66,12 @@ accepted m = record { code = 0; message = m }
 abbrev pub refused : ℕ → ReadAnswer
 refused number = record { code = number; message = emptyMessage }
 
--- document 01's number and values of each case of the reader's enum
+-- FORM-9: the rule's number and values for each case of the reader's enum
 abbrev pub readingOf : Reading → ReadAnswer
 readingOf (Accepted m) = accepted m
 readingOf (Refused number) = refused number
 
--- "A record is first read into a message, or refused (10, 11, 13, in that order)"
+-- RECORD-4, HEAR-1: "A record is first read into a message, or refused (10, 11, 13, in that order)"
 unfoldable pub readRecord : List ℕ → ReadAnswer
 readRecord s =
     cond (eqb (length s) 32)
@@ -84,8 +85,8 @@ pub record WriteAnswer : Type 0 where
   pub code : ℕ
   pub bytes : List ℕ
 
--- "writing it is refused by 13, a buffer that is not 32 bytes by 10"; a refusal leaves the buffer
--- as it was
+-- RECORD-5: "writing it is refused by 13, a buffer that is not 32 bytes by 10"; a refusal leaves
+-- the buffer as it was
 unfoldable pub written : Message → List ℕ → WriteAnswer
 written m s =
     cond (eqb (length s) 32)

@@ -1,4 +1,4 @@
-// The field rules of document 01's table of kinds: the id, the sets and the details that each kind names.
+// The field rules, RECORD-2 and RECORD-3 (docs/RULES.md): the id, the sets and the details that each kind names.
 ghost use mathlib.Core.Path.{_≡_};
 ghost use mathlib.Core.List.{[], _∷_};
 ghost use Rattle.message.specs.Fields.{
@@ -77,7 +77,7 @@ fn no_sets(m: Message) -> bool
     (m.a == 0) & (m.b == 0)
 }
 
-// Whether the sets and details that the kind names are as it wants them, and all others 0.
+// Whether the sets and details that the kind names are as it wants them, and all others 0 (RECORD-3).
 fn named_kept(m: Message) -> bool
     ensures { λ r. ⌜ r ≡ namedKept (named (m .kind)) m ⌝ }
 {
@@ -95,7 +95,7 @@ fn named_kept(m: Message) -> bool
     }
 }
 
-// Whether the id is 0 for the recorder, and not 0 for every other kind.
+// Whether the id is 0 for the recorder, and not 0 for every other kind (RECORD-2).
 fn id_kept(kind: u8, id: u32) -> bool
     ensures { λ r. ⌜ r ≡ idKept kind id ⌝ }
 {

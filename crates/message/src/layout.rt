@@ -1,4 +1,4 @@
-// The 32 bytes of a record: where each field of a message stands.
+// The 32 bytes of a record: where each field of a message stands (RECORD-1 of docs/RULES.md).
 ghost use mathlib.Core.Path.{_≡_};
 ghost use lib.Seq.{sets};
 ghost use Rattle.message.specs.Fields.{details};

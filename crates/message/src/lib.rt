@@ -1,6 +1,6 @@
-// Messages of the works desk and their 32-byte records (document 01, 'Message record'): the field rules, reading and
-// writing. The rules are in specs/: Fields.antt has the table's column of fields, Record.antt the layout and both
-// answers.
+// Messages of the works desk and their 32-byte records (RECORD-1 to RECORD-6 of docs/RULES.md): the field rules,
+// reading and writing. The rules are in specs/: Fields.antt has the table's column of fields, Record.antt the layout
+// and both answers.
 ghost use mathlib.Core.Path.{_≡_};
 ghost use Rattle.message.specs.Fields.{fieldNumber};
 ghost use Rattle.message.specs.Record.{readingOf, readRecord, written};
@@ -8,7 +8,7 @@ ghost use Rattle.message.specs.Record.{readingOf, readRecord, written};
 mod fields;
 mod layout;
 
-// The kinds of message, the documents' numbers.
+// The kinds of message, by their numbers in the table after RECORD-6.
 pub const WORK_ASKED: u8 = 1;
 
 pub const AGREED: u8 = 2;
@@ -45,7 +45,7 @@ pub const BAD_FIELD: u8 = 13;
 // The length of a record in bytes.
 pub const RECORD: usize = 32;
 
-// A message: kind, zone, time in seconds, form number or train, two turnout sets, six details.
+// A message: kind, zone, time in seconds, form number or train, two turnout sets, six details (RECORD-1).
 pub struct Message {
     pub a: u64,
     pub b: u64,
@@ -67,7 +67,7 @@ pub enum Reading {
     Refused(u8),
 }
 
-// 0 if the message keeps the field rules, else the number that refuses it: 11 for its kind, 13 for a field.
+// 0 if the message keeps the field rules, else the number that refuses it: 11 for its kind, 13 for a field (RECORD-4).
 pub fn field_code(m: Message) -> u8
     ensures { λ r. ⌜ r ≡ fieldNumber m ⌝ }
 {
@@ -84,7 +84,7 @@ pub fn field_code(m: Message) -> u8
     BAD_FIELD
 }
 
-// Reads a record. Refused by 10, 11, 13, in that order.
+// Reads a record. Refused by 10, 11, 13, in that order (RECORD-4).
 pub fn read_record(s: &[u8]) -> Reading
     ensures { λ r. ⌜ readingOf r ≡ readRecord (now (s .entry)) ⌝ }
 {
@@ -109,7 +109,7 @@ pub fn reading_code(reading: Reading) -> u8
 }
 
 // Writes a message as a record into the buffer. Refused by 10 for a buffer that is not 32 bytes, then by 13 for a
-// message that no record carries; the buffer then stays as it was.
+// message that no record carries; the buffer then stays as it was (RECORD-5).
 pub fn write_record(m: Message, s: &mut [u8]) -> u8
     ensures { λ r. ⌜ record { code = r; bytes = now (s .exit) } ≡ written m (now (s .entry)) ⌝ }
 {

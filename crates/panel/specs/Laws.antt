@@ -1,5 +1,5 @@
--- How the answers of the panel's reader and of the desk's go together: document 02, M-102. The
--- claim stands at the end; proofs/Laws.antt proves it.
+-- How the answers of the panel's reader and of the desk's go together: PANEL-1 to PANEL-3
+-- (docs/RULES.md). The claim stands at the end; proofs/Laws.antt proves it.
 use mathlib.Core.Bool.{true}
 use mathlib.Core.List.{List}
 use mathlib.Core.Logic.{_≢_, _⊎_, _↔_}
@@ -17,27 +17,28 @@ pub record OverLimits (s : List ℕ) : Type 0 where
   pub header : 8 ≤ length s
   pub mark : hasMark s ≡ true
   pub version-kept : versionKept (version s) ≡ true
-  -- "after the counts are found in range": P 1 to 64, R 0 to 64, Z 1 to 8
+  -- PANEL-2: "after the counts are found in range": P 1 to 64, R 0 to 64, Z 1 to 8
   pub counts : GoodCounts (stationIn s)
-  -- "more than 16 turnouts or 8 routes"
+  -- PANEL-2: "more than 16 turnouts or 8 routes"
   pub over : (16 < countP s) ⊎ (8 < countR s)
 
--- what document 02 asks of the panel's answer to bytes s and of the desk's
+-- what PANEL-1 to PANEL-3 ask of the panel's answer to bytes s and of the desk's
 pub record PanelLaws (s : List ℕ) (panel desk : Sheet) : Type 0 where
-  -- "On a sheet within both limits the two calls give the same station": the same whole answer, a
-  -- refusal's too
+  -- PANEL-3: "On a sheet within both limits the two calls give the same station": the same whole
+  -- answer, a refusal's too
   pub same-within : countP s ≤ 16 → countR s ≤ 8 → panel ≡ desk
-  -- "9, more than 16 turnouts or 8 routes, .. after the counts are found in range and before the
-  -- length; ..
+  -- PANEL-2: "9, more than 16 turnouts or 8 routes, .. after the counts are found in range and
+  -- before the length; ..
   pub nine : (panel .code ≡ 9) ↔ OverLimits s
   -- .. the station is the empty one.", and the index 0
   pub empty-with-nine : panel .code ≡ 9 → panel ≡ refusedSheet 9 0
-  -- in all else they agree, so what the panel accepts the desk accepts, with the same station ..
+  -- PANEL-3: in all else they agree, so what the panel accepts the desk accepts, with the same
+  -- station ..
   pub same-without-nine : panel .code ≢ 9 → panel ≡ desk
-  -- .. which is within both limits
+  -- PANEL-1: .. which is within both limits
   pub accepted-within :
       panel .code ≡ 0 → (panel .station .turnouts ≤ 16) × (panel .station .routes ≤ 8)
-  -- "by the panel's call alone"
+  -- PANEL-2: "by the panel's call alone"
   pub never-by-the-desk : desk .code ≢ 9
 
 -- The claim, of all bytes.

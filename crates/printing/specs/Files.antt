@@ -1,4 +1,4 @@
--- Files in buffers, and their text in one: document 01, 'Station K'.
+-- Files in buffers, and their text in one: PROGRAM-1 and PROGRAM-2 (docs/RULES.md).
 use mathlib.Core.List.{List, _++_}
 use mathlib.Core.Path.{_≡_}
 use Prim.Native.Nat.{ℕ}

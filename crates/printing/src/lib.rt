@@ -1,6 +1,6 @@
-// Printing the text of a sheet and a journal that stand in files: what the desk program does, for any names. The text
-// is `desk_text`'s; what is proved here is that the program's buffers hold all of it, and that printing is safe and
-// ends.
+// Printing the text of a sheet and a journal that stand in files: what the desk program does (PROGRAM-1 and PROGRAM-2
+// of docs/RULES.md), for any names. The text is `desk_text`'s; what is proved here is that the program's buffers hold
+// all of it, and that printing is safe and ends.
 ghost use Prim.Native.Nat.{_≤_};
 ghost use lib.ListN.{length};
 ghost use Rattle.io.specs.Counts.{Counts};
@@ -29,7 +29,7 @@ fn text_of_files(sheet: &[u8], n: usize, journal: &[u8], m: usize, out: &mut [u8
     desk_text::put_text(&sheet[..n], &journal[..m], out)
 }
 
-// Prints the text of the files with these names; a file that cannot be read counts as empty.
+// Prints the text of the files with these names; a file that cannot be read counts as empty (PROGRAM-2).
 pub fn print_files(sheet_name: &[u8], journal_name: &[u8]) {
     let mut sheet = [0u8; SHEET];
     let mut journal = [0u8; JOURNAL];

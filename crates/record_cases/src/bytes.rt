@@ -1,4 +1,4 @@
-// The 32 bytes of a message, whether a record carries it or not: the layout of document 01, 'Message record'.
+// The 32 bytes of a message, whether a record carries it or not: the layout of RECORD-1 (docs/RULES.md).
 
 // Stores kind, zone, time, id and the sets.
 fn store_head(m: message::Message, s: &mut [u8]) {

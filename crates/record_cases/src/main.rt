@@ -1,7 +1,7 @@
-// Tries the field rules of message records (document 01, 'Message record'; of d5 document 02, M-101, of kind 13
-// M-105) on worked numbers. A rule that refuses everything, or one that accepts everything, could still be proved to
-// keep the layout and the round trips; what this program writes shows which records are accepted. The expected lines
-// are in stdout, written from the documents; no expected number stands here.
+// Tries the field rules of message records (RECORD-1 to RECORD-6 of docs/RULES.md) on worked numbers. A rule that
+// refuses everything, or one that accepts everything, could still be proved to keep the layout and the round trips;
+// what this program writes shows which records are accepted. The expected lines are in stdout, written from the rules
+// by hand; no expected number stands here.
 //
 // A line for each case: KIND FIELD VALUE READ WRITE. The case is the good message of KIND with VALUE put into FIELD
 // ('-' and 0: the good message itself). READ is what reading its 32 bytes gives (0: accepted), WRITE what writing the

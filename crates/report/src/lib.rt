@@ -1,7 +1,7 @@
-// The answers to a journal's records, as bytes and as text. Answer n of a list stands in the five bytes from 5 x n
-// on: the code, then the minutes in four bytes (document 01, 'Numbers the desk returns' and 'Station K'). Every
-// function takes buffers of any length: what does not fit is not stored. The rules are in specs/: Answers.antt has
-// the bytes, Text.antt the text.
+// The answers to a journal's records, as bytes and as text. Answer n of a list stands in the five bytes from 5 x n on:
+// the code, then the minutes in four bytes (REPLAY-1). The text is that of PROGRAM-1 and PROGRAM-2 (docs/RULES.md).
+// Every function takes buffers of any length: what does not fit is not stored. The rules are in specs/: Answers.antt
+// has the bytes, Text.antt the text.
 ghost use mathlib.Core.Path.{_≡_};
 ghost use Rattle.report.specs.Answers.{withAnswer};
 ghost use Rattle.report.specs.Text.{decimal, lineOf, textOf, putByte, putAll};
@@ -9,7 +9,7 @@ ghost use Rattle.report.specs.Text.{decimal, lineOf, textOf, putByte, pu
 // The length of an answer in bytes.
 pub const ANSWER: usize = 5;
 
-// Stores answer n.
+// Stores answer n (REPLAY-1).
 pub fn put_answer(s: &mut [u8], n: u32, code: u8, minutes: u32)
     ensures { λ r. ⌜ now (s .exit) ≡ withAnswer (now (s .entry)) n code minutes ⌝ }
 {
@@ -40,7 +40,7 @@ pub fn put_decimal(out: &mut [u8], at: usize, n: u32) -> usize
     put_byte(out, next, 48 + (n % 10) as u8)
 }
 
-// Puts one line: three numbers.
+// Puts one line: three numbers (PROGRAM-1).
 fn put_line(out: &mut [u8], at: usize, n: u32, code: u8, minutes: u32) -> usize
     ensures { λ r. ⌜
         record { place = r; bytes = now (out .exit) }
@@ -55,8 +55,8 @@ fn put_line(out: &mut [u8], at: usize, n: u32, code: u8, minutes: u32) -> usize
     put_byte(out, e, b'\n')
 }
 
-// The text of a list of answers: a line for each, its number from 1, its code, its minutes; of a refusal its number
-// on one line. Says how long the text is that the buffer then holds from its start on.
+// The text of a list of answers: a line for each, its number from 1, its code, its minutes; of a refusal its number on
+// one line (PROGRAM-1, PROGRAM-2). Says how long the text is that the buffer then holds from its start on.
 pub fn text(code: u8, answers: &[u8], count: u32, out: &mut [u8]) -> usize
     ensures { λ r. ⌜
         record { place = r; bytes = now (out .exit) }

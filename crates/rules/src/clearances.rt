@@ -1,4 +1,4 @@
-// Whether a clearance fits its turnout, and its medium the recorder.
+// Whether a clearance fits its turnout, FIT-1 to FIT-5, and its medium the recorder, KIND-6.5 (docs/RULES.md).
 ghost use mathlib.Core.Path.{_≡_};
 ghost use Rattle.rules.specs.Clearance.{
   isEfficient,
@@ -13,14 +13,14 @@ use message::Message;
 use station::Route;
 use station::Station;
 
-// Whether a declaration means all efficient.
+// Whether a declaration means all efficient (FIT-5).
 pub fn is_efficient(declaration: u8) -> bool
     ensures { λ r. ⌜ r ≡ isEfficient declaration ⌝ }
 {
     (declaration == 1) | (declaration == 2)
 }
 
-// Whether a position is that of turnout n in the route.
+// Whether a position is that of turnout n in the route (FIT-1).
 fn position_fits(r: Route, n: u8, position: u8) -> bool
     ensures { λ b. ⌜ b ≡ positionFits r n position ⌝ }
 {
@@ -30,7 +30,7 @@ fn position_fits(r: Route, n: u8, position: u8) -> bool
     position == 0
 }
 
-// Whether a declaration fits a drive.
+// Whether a declaration fits a drive (FIT-2).
 fn drive_fits(declaration: u8, drive: u8) -> bool
     ensures { λ r. ⌜ r ≡ driveFits declaration drive ⌝ }
 {
@@ -43,7 +43,7 @@ fn drive_fits(declaration: u8, drive: u8) -> bool
     drive == 1
 }
 
-// Whether a clamp is as the declaration wants it on a turnout that is run over, or is not.
+// Whether a clamp is as the declaration wants it on a turnout that is run over, or is not (FIT-3).
 fn clamp_fits(declaration: u8, over: bool, clamp: u8) -> bool
     ensures { λ r. ⌜ r ≡ clampFits declaration over clamp ⌝ }
 {
@@ -63,7 +63,7 @@ fn clamp_fits(declaration: u8, over: bool, clamp: u8) -> bool
 }
 
 // Whether a declaration covers both ends where it must, and nowhere else: where all is efficient on a turnout with a
-// partner.
+// partner (FIT-4).
 fn ends_fit(declaration: u8, partnered: bool, both: u8) -> bool
     ensures { λ r. ⌜ r ≡ endsFit declaration partnered both ⌝ }
 {
@@ -73,7 +73,7 @@ fn ends_fit(declaration: u8, partnered: bool, both: u8) -> bool
     both == 0
 }
 
-// Whether a clearance fits its turnout in a route.
+// Whether a clearance fits its turnout in a route (KIND-6.4).
 pub fn clearance_fits(st: Station, r: Route, m: Message) -> bool
     ensures { λ b. ⌜ b ≡ clearanceFits st r m ⌝ }
 {
@@ -86,7 +86,7 @@ pub fn clearance_fits(st: Station, r: Route, m: Message) -> bool
         & ends_fit(m.d1, partnered, m.d5)
 }
 
-// Whether the medium of a clearance, 1 voice or 2 written, is the one that the recorder asks for.
+// Whether the medium of a clearance, 1 voice or 2 written, is the one that the recorder asks for (KIND-6.5).
 pub fn medium_fits(working: bool, medium: u8) -> bool
     ensures { λ r. ⌜ r ≡ mediumFits working medium ⌝ }
 {

@@ -1,4 +1,4 @@
-// Which release key may be used on which turnout of a route.
+// Which release key may be used on which turnout of a route (KIND-13.4 of docs/RULES.md).
 ghost use mathlib.Core.Path.{_≡_};
 ghost use Rattle.rules.specs.Keys.{keyFits};
 use station::Route;

@@ -1,6 +1,6 @@
 -- Tests on a range of numbers: counting those that pass, finding the first, asking whether all do.
--- Turnouts, routes and zones are numbered from 0, so the rules of several parts of document 01 are
--- stated by these.
+-- Turnouts, routes and zones are numbered from 0 (SET-1 of docs/RULES.md), so many rules are stated
+-- by these.
 use mathlib.Core.Bool.{Bool, true, cond, _&&_}
 use Prim.Native.Nat.{ℕ, zero, suc, _+_}
 

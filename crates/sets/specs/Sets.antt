@@ -1,15 +1,15 @@
--- Turnout sets. Document 01: "A set is a 64-bit word; bit n (value 2^n) is turnout n."
+-- Turnout sets. SET-2 (docs/RULES.md): "A set is a 64-bit word; bit n (value 2^n) is turnout n."
 use mathlib.Core.Bool.{Bool, cond, not}
 use Prim.Native.Nat.{ℕ, zero, suc, _/_, _%_, _^_}
 use lib.Dec.{eqb, ltb}
 use lib.Bits.{bitAnd, bitOr, bitXor}
 use Rattle.sets.specs.Range.{countFrom, firstFrom}
 
--- turnout n is in the set s
+-- SET-2: turnout n is in the set s
 unfoldable pub has : ℕ → ℕ → Bool
 has s n = eqb (s / 2 ^ n % 2) 1
 
--- the set of the turnout n alone; empty where no turnout has that number
+-- SET-2: the set of the turnout n alone; empty where no turnout has that number
 unfoldable pub single : ℕ → ℕ
 single n = cond (ltb n 64) (2 ^ n) 0
 

@@ -1,5 +1,5 @@
-// Turnout sets: a set is a 64-bit word, bit n is turnout n (document 01). Every function is total: it takes any number
-// and any word. The rules are in specs/Sets.antt, the laws by membership in proofs/Membership.antt.
+// Turnout sets: a set is a 64-bit word, bit n is turnout n (SET-2 of docs/RULES.md). Every function is total: it takes
+// any number and any word. The rules are in specs/Sets.antt, the laws by membership in proofs/Membership.antt.
 ghost use mathlib.Core.Path.{_≡_};
 ghost use Rattle.sets.specs.Sets.{has, single, isEmpty, overlaps, within, without, union, count, lowest};
 
@@ -60,14 +60,14 @@ pub fn join(a: u64, b: u64) -> u64
     a | b
 }
 
-// How many turnouts are in s.
+// How many turnouts are in s (FORM-2).
 pub fn how_many(s: u64) -> u32
     ensures { λ r. ⌜ r ≡ count s ⌝ }
 {
     u64::count_ones(s)
 }
 
-// The lowest turnout in s; 64 if s is empty.
+// The lowest turnout in s; 64 if s is empty (FORM-2).
 pub fn lowest_of(s: u64) -> u32
     ensures { λ r. ⌜ r ≡ lowest s ⌝ }
 {

@@ -1,5 +1,5 @@
--- The station of an accepted sheet passes the reader's tests, has all that document 01 asks, and is
--- accepted as it is.
+-- The station of an accepted sheet passes the reader's tests, has all that the rules on sheets
+-- (SHEET-1 to SHEET-12 of docs/RULES.md) ask, and is accepted as it is.
 use mathlib.Core.Bool.{Bool, true, false, cond, not, _||_}
 use mathlib.Core.Logic.{_≢_, inl, inr}
 use mathlib.Core.Path.{_≡_, refl, ap, _∙_}
@@ -130,7 +130,7 @@ passed st h =
       none-bad (goodRoute st) (routeCount st) (routes .0),
     )
 
--- a station that passes the tests has all that document 01 asks
+-- a station that passes the tests has all that the rules ask
 pub all-asked : (st : Station) → Passed st → Accepted st
 all-asked st p = record {
   counts = p .counts;
@@ -175,7 +175,7 @@ module _ (s : List ℕ) (code-zero : readSheet s .code ≡ 0) where
         past-routes = places-past (λ i. routeIn s (routePlace (countP s) i)) (countR s) emptyRoute;
       }
 
-  -- and so has all that document 01 asks
+  -- and so has all that the rules ask
   pub accepted : Accepted (readSheet s .station)
   accepted = all-asked (readSheet s .station) passes
 

@@ -1,4 +1,5 @@
--- A route that passes the tests of a sheet has all that document 01 asks of it.
+-- A route that passes the tests of a sheet has all that SHEET-5 to SHEET-9 (docs/RULES.md) ask of
+-- it.
 use mathlib.Core.Bool.{true, not, _||_, and-eq-true-iff}
 use mathlib.Core.Path.{_≡_}
 use Prim.Native.Nat.{ℕ, _≤_, _<_}

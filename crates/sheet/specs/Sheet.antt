@@ -1,4 +1,4 @@
--- Judging a station and reading a sheet: document 01, 'Station sheet'.
+-- Judging a station and reading a sheet: SHEET-5 to SHEET-9, SHEET-11 and SHEET-12 (docs/RULES.md).
 use mathlib.Core.Bool.{Bool, cond, not, _&&_, _||_}
 use mathlib.Core.List.{List}
 use Prim.Native.Nat.{ℕ, _^_, _-_}
@@ -20,8 +20,8 @@ use Rattle.layout.specs.Layout.{headerNumber, stationIn}
 abbrev pub allTurnouts : ℕ → ℕ
 allTurnouts p = 2 ^ p - 1
 
--- "The first three are pairwise disjoint; their union .. lies among the P turnouts ..; run over is
--- not empty; reverse lies within the union."
+-- SHEET-5, SHEET-6, SHEET-7: "The first three are pairwise disjoint; their union .. lies among the
+-- P turnouts ..; run over is not empty; reverse lies within the union."
 abbrev pub setsKept : ℕ → Route → Bool
 setsKept p r =
     not (overlaps (r .over) (r .flank))
@@ -32,8 +32,8 @@ setsKept p r =
     && within (r .reverse) (namedBy r)
 
 -- What a route asks of turnout n, its record t and the group tied to it: a named turnout is in the
--- route's zone; "A flank turnout's partner is flank too (Art. 3.24)"; "Both ends of a crossover, if
--- named, have the same position".
+-- route's zone (SHEET-6); SHEET-8: "A flank turnout's partner is flank too (Art. 3.24)"; SHEET-9:
+-- "Both ends of a crossover, if named, have the same position".
 abbrev pub memberKept : Route → ℕ → Turnout → ℕ → Bool
 memberKept r n t group =
     (not (has (namedBy r) n) || eqb (t .zone) (r .zone))
@@ -46,26 +46,26 @@ goodRoute st n =
     setsKept (turnoutCount st) r
     && allFrom (λ t. memberKept r t (turnoutAt st t) (tied st t)) 0 (turnoutCount st)
 
--- "the first bad record ends the reading": its index, or the count where all are good
+-- SHEET-11: "the first bad record ends the reading": its index, or the count where all are good
 unfoldable pub badRoute : Station → ℕ
 badRoute st = firstFrom (λ n. not (goodRoute st n)) 0 (routeCount st)
 
--- "1, 2, 3, 4 .. 5, 6, with record index from 0 (else 0)": "empty station, every number 0"; so with
--- the panel's 9
+-- SHEET-11: "1, 2, 3, 4 .. 5, 6, with record index from 0 (else 0)"; SHEET-12: "empty station,
+-- every number 0"; so with the panel's 9 (PANEL-2)
 abbrev pub refusedSheet : ℕ → ℕ → Sheet
 refusedSheet number place = record { code = number; index = place; station = emptyStation }
 
 abbrev pub acceptedSheet : Station → Sheet
 acceptedSheet st = record { code = 0; index = 0; station = st }
 
--- routes: the station, or the number and index of its first bad route; asked where its turnouts are
--- good
+-- SHEET-11, routes: the station, or the number and index of its first bad route; asked where its
+-- turnouts are good
 unfoldable pub routesJudged : Station → Sheet
 routesJudged st =
     cond (ltb (badRoute st) (routeCount st)) (refusedSheet 6 (badRoute st)) (acceptedSheet st)
 
--- ".. turnouts, routes": the station, or the number and index of its first bad record; asked where
--- its counts are in range
+-- SHEET-11: ".. turnouts, routes": the station, or the number and index of its first bad record;
+-- asked where its counts are in range
 unfoldable pub judged : Station → Sheet
 judged st =
     cond (ltb (badTurnout st) (turnoutCount st)) (refusedSheet 5 (badTurnout st)) (routesJudged st)
@@ -79,6 +79,6 @@ findingOf a = record { code = a .code; index = a .index }
 abbrev pub afterHeader : ℕ → List ℕ → Sheet
 afterHeader number s = cond (eqb number 0) (judged (stationIn s)) (refusedSheet number 0)
 
--- the answer to any bytes as a sheet
+-- SHEET-11, SHEET-12: the answer to any bytes as a sheet
 unfoldable pub readSheet : List ℕ → Sheet
 readSheet s = afterHeader (headerNumber s) s

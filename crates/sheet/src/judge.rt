@@ -1,4 +1,5 @@
-// Judging a station whose counts are in range: the first bad turnout, then the first bad route.
+// Judging a station whose counts are in range: the first bad turnout, then the first bad route (SHEET-5 to SHEET-9 and
+// SHEET-11 of docs/RULES.md).
 ghost use mathlib.Core.Path.{_≡_};
 ghost use Rattle.sheet.specs.Sheet.{
   allTurnouts,
@@ -37,7 +38,8 @@ fn all_turnouts(p: usize) -> u64
     18446744073709551615
 }
 
-// Whether the sets of a route are disjoint, among the p turnouts, not empty and within each other as they must be.
+// Whether the sets of a route are disjoint, among the p turnouts, not empty and within each other as they must be
+// (SHEET-5 to SHEET-7).
 fn sets_kept(p: usize, r: Route) -> bool
     ensures { λ b. ⌜ b ≡ setsKept (min p 64) r ⌝ }
 {
@@ -49,7 +51,8 @@ fn sets_kept(p: usize, r: Route) -> bool
         & sets::is_within(r.reverse, names(r))
 }
 
-// Whether turnout n, its record t and the turnouts tied to it are as the route r wants them.
+// Whether turnout n, its record t and the turnouts tied to it are as the route r wants them (SHEET-6, SHEET-8,
+// SHEET-9).
 fn member_kept(r: Route, n: usize, t: Turnout, group: u64) -> bool
     ensures { λ b. ⌜ b ≡ memberKept r n t group ⌝ }
 {
@@ -59,7 +62,7 @@ fn member_kept(r: Route, n: usize, t: Turnout, group: u64) -> bool
         & is_whole(group & named, r.reverse)
 }
 
-// The index of the first bad route; the count if all are good.
+// The index of the first bad route; the count if all are good (SHEET-11, FORM-7).
 fn first_bad_route(st: Station) -> usize
     ensures { λ b. ⌜ b ≡ badRoute st ⌝ }
 {
@@ -84,7 +87,7 @@ fn first_bad_route(st: Station) -> usize
     i
 }
 
-// The answer that refuses a sheet.
+// The answer that refuses a sheet (SHEET-12).
 pub fn refused(code: u8, index: u8) -> Sheet
     ensures { λ r. ⌜ r ≡ refusedSheet code index ⌝ }
 {

@@ -1,4 +1,4 @@
-// The reader of station sheets (document 01, 'Station sheet'). The rules of judging and reading are in
+// The reader of station sheets (SHEET-1 to SHEET-12 of docs/RULES.md). The rules of judging and reading are in
 // specs/Sheet.antt, those of the bytes in the crate `layout`. proofs/Accepted.antt has what an accepted sheet
 // guarantees of its station.
 ghost use mathlib.Core.Path.{_≡_};
@@ -13,7 +13,7 @@ pub const BAD_TURNOUT: u8 = 5;
 pub const BAD_ROUTE: u8 = 6;
 
 // What reading a sheet gives: 0 and the station; or the number that refuses it, the index of the record for 5 and 6
-// (else 0), and the station that is 0 throughout.
+// (else 0), and the station that is 0 throughout (SHEET-11, SHEET-12).
 pub struct Sheet {
     pub station: station::Station,
     pub code: u8,

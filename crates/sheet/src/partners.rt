@@ -1,4 +1,4 @@
-// Turnout records with partners.
+// Turnout records with partners: SHEET-2 and SHEET-3 (docs/RULES.md).
 ghost use mathlib.Core.Path.{_≡_};
 ghost use Rattle.sheet.specs.Partners.{turnoutKept, partnerKept, badTurnout};
 use station::Station;
@@ -7,7 +7,7 @@ use station::observe::record_of;
 use station::turnout_count;
 use station::zone_count;
 
-// Whether turnout n, with the record t, and its partner's record o are two ends of a crossover.
+// Whether turnout n, with the record t, and its partner's record o are two ends of a crossover (SHEET-3).
 fn partner_kept(p: usize, n: usize, t: Turnout, o: Turnout) -> bool
     ensures { λ r. ⌜ r ≡ partnerKept p n t o ⌝ }
 {
@@ -16,7 +16,7 @@ fn partner_kept(p: usize, n: usize, t: Turnout, o: Turnout) -> bool
     (other < p) & (other != n) & (back == n) & (o.zone == t.zone) & (o.drive == t.drive)
 }
 
-// Whether the record t of turnout n is good, o being its partner's.
+// Whether the record t of turnout n is good, o being its partner's (SHEET-2).
 fn turnout_kept(p: usize, z: usize, n: usize, t: Turnout, o: Turnout) -> bool
     ensures { λ r. ⌜ r ≡ turnoutKept p z n t o ⌝ }
 {
@@ -24,7 +24,7 @@ fn turnout_kept(p: usize, z: usize, n: usize, t: Turnout, o: Turnout) -> bool
     (zone < z) & (t.drive <= 1) & ((t.partner == 255) | partner_kept(p, n, t, o))
 }
 
-// The index of the first bad turnout; the count if all are good.
+// The index of the first bad turnout; the count if all are good (SHEET-11).
 pub fn first_bad_turnout(st: Station) -> usize
     ensures { λ r. ⌜ r ≡ badTurnout st ⌝ }
 {

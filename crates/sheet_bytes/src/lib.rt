@@ -1,6 +1,6 @@
-// A station as the bytes of a sheet, stored into a buffer. The bytes are in specs/SheetBytes.antt; they are the
-// inverse of the station that the crate `layout` finds in bytes (proofs/Inverse.antt). Storing takes any station and
-// any buffer; the crate `sheet_writer` refuses.
+// A station as the bytes of a sheet, stored into a buffer (WRITE-1 of docs/RULES.md). The bytes are in
+// specs/SheetBytes.antt; they are the inverse of the station that the crate `layout` finds in bytes
+// (proofs/Inverse.antt). Storing takes any station and any buffer; the crate `sheet_writer` refuses.
 ghost use mathlib.Core.Path.{_≡_};
 ghost use Prim.Native.Nat.{_<_, _+_, _*_, min};
 ghost use lib.Seq.{sets};
@@ -80,7 +80,7 @@ fn put_routes(s: &mut [u8], p: u8, r: u8, rs: [Route; 64])
     }
 }
 
-// Stores the sheet of a station at the start of the buffer; a byte past its end is not stored.
+// Stores the sheet of a station at the start of the buffer; a byte past its end is not stored (WRITE-1).
 pub fn put_sheet(st: Station, s: &mut [u8])
     ensures { λ u. ⌜ now (s .exit) ≡ sets (now (s .entry)) 0 (sheetBytes st) ⌝ }
 {

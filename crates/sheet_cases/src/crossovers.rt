@@ -1,4 +1,5 @@
-// Whether sets split a crossover (document 01; document 02, M-104), on stations whose partners are any numbers.
+// Whether sets split a crossover (KIND-1.2, VALUE-1 and VALUE-2 of docs/RULES.md), on stations whose partners are any
+// numbers.
 use super::write_number;
 use case_rows::byte_at;
 use case_rows::number_at;

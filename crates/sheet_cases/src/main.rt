@@ -1,9 +1,8 @@
-// Tries the reader of station sheets (document 01, 'Station sheet') on worked sheets, their writer (document 02,
-// M-100) on worked stations, the cabin panel's reader (document 02, M-102) beside the desk's, and what stations say
-// (document 01, 'Conditions of acceptance'; document 02, M-101 and M-104). They are proved to follow the rules in the
-// specs/ of their crates, sheet, sheet_writer, panel and station; what this program writes shows that these rules
-// accept, refuse and answer as the documents do.
-// The cases are in stdin and the expected lines in stdout, written from the documents; no expected number stands
+// Tries the reader of station sheets (SHEET-1 to SHEET-12 of docs/RULES.md) on worked sheets, their writer (WRITE-1 to
+// WRITE-5) on worked stations, the cabin panel's reader (PANEL-1 to PANEL-3) beside the desk's, and what stations say
+// (VALUE-1 to VALUE-3, FIT-4). They are proved to follow the rules in the specs/ of their crates, sheet, sheet_writer,
+// panel and station; what this program writes shows that these rules accept, refuse and answer as docs/RULES.md does.
+// The cases are in stdin and the expected lines in stdout, written from the rules by hand; no expected number stands
 // here.
 //
 // A line of the input that starts with # is a remark; an empty line ends the input. Any other line starts with a name
@@ -19,9 +18,9 @@
 // of the 64 turnouts names none (255). The output is the name and 1 for yes, 0 for no.
 // Number 10 to 19 is a question about a station: 10, 11, 12 the count of turnouts, routes, zones; 13 and 14 the zone
 // and the drive of a turnout; 15 what is tied to it; 16 the turnouts of a zone; 17 what a route names; 18 whether a
-// set splits a crossover; 19 whether a turnout has a partner (document 02, M-101), 1 for yes. Then come a count, a
-// partner and what is asked about. With count 0 the station is station K; else it is one that no sheet gave, with this
-// number, modulo 256, for each count and this partner for each turnout. The output is the name and the answer.
+// set splits a crossover; 19 whether a turnout has a partner (FIT-4), 1 for yes. Then come a count, a partner and what
+// is asked about. With count 0 the station is station K; else it is one that no sheet gave, with this number, modulo
+// 256, for each count and this partner for each turnout. The output is the name and the answer.
 // Number 20 to 24 is a station that is written: 20 the empty one, every number 0; 21 to 24 the one that sheet 1 to 4
 // gives. Then come the length of the buffer, at most 2,400, and changes to the station, pairs of a place and the
 // number that is put there. Places 0, 1 and 2 are the counts of turnouts, routes and zones; 3 + 3n, 4 + 3n and 5 + 3n

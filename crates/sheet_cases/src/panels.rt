@@ -1,4 +1,5 @@
-// Sheets for the cabin panel (document 02, M-102): plain ones of any counts, read by the panel and by the desk.
+// Sheets for the cabin panel (PANEL-1 to PANEL-3 of docs/RULES.md): plain ones of any counts, read by the panel and by
+// the desk.
 use super::first;
 use super::sheets::put_header;
 use super::stations;

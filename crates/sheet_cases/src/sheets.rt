@@ -31,8 +31,8 @@ fn put_route(s: &mut [u8], at: u8, zone: u8, sets: [u8; 4]) {
     put(s, at + 32, sets[3]);
 }
 
-// Stores station K of document 01 in 50 bytes that are 0: 0 and 1 an electric crossover, 2 alone by hand; the route
-// runs over {0}, flank {2}, exit zone and reverse empty.
+// Stores station K (K-1 of docs/RULES.md) in 50 bytes that are 0: 0 and 1 an electric crossover, 2 alone by hand; the
+// route runs over {0}, flank {2}, exit zone and reverse empty.
 fn put_k(s: &mut [u8]) {
     put_header(s, 3, 1, 1);
     put_bytes(s, 8, &[0, 1, 0, 0, 0, 0, 0, 255, 1]);

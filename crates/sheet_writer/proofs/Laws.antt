@@ -1,5 +1,5 @@
--- The laws of the writer: each sentence of document 02's request, from the definition and from the
--- two inverse laws of a sheet's bytes.
+-- The laws of the writer: each sentence of WRITE-1 to WRITE-5 (docs/RULES.md), from the definition
+-- and from the two inverse laws of a sheet's bytes.
 use mathlib.Core.Bool.{Bool, true, false, false≢true}
 use mathlib.Core.List.{List, _++_}
 use mathlib.Core.Logic.{_≢_}

@@ -1,5 +1,5 @@
--- What the writer guarantees: document 02, M-100, sentence by sentence, through the reader's own
--- definition. The claims stand at the end; proofs/Laws.antt proves them.
+-- What the writer guarantees: WRITE-1 to WRITE-5 (docs/RULES.md), sentence by sentence, through the
+-- reader's own definition. The claims stand at the end; proofs/Laws.antt proves them.
 use mathlib.Core.List.{List}
 use mathlib.Core.Logic.{_≢_, _↔_}
 use mathlib.Core.Path.{_≡_}
@@ -18,23 +18,23 @@ pub record Describes (s : List ℕ) (st : Station) : Type 0 where
   pub bytes : Bytes s
   pub reads : readSheet s ≡ acceptedSheet st
 
--- what document 02 asks of the answer w of writing a station into a buffer
+-- what WRITE-1 to WRITE-4 ask of the answer w of writing a station into a buffer
 pub record WriterLaws (st : Station) (buffer : List ℕ) (w : SheetWritten) : Type 0 where
-  -- "Turned away: 7, a station that, as it stands, no sheet describes; ..
+  -- WRITE-3: "Turned away: 7, a station that, as it stands, no sheet describes; ..
   pub no-sheet : (w .code ≡ 7) ↔ ((s : List ℕ) → Describes s st → ⊥)
-  -- .. then 8, a buffer shorter than the sheet; both after nothing else, ..
+  -- WRITE-4: .. then 8, a buffer shorter than the sheet; both after nothing else, ..
   pub short-buffer : (w .code ≡ 8) ↔ ((w .code ≢ 7) × (length buffer < lengthOf st))
   -- .. with the buffer untouched."
   pub untouched : w .code ≢ 0 → w .bytes ≡ buffer
   -- no other number comes
   pub accepted : w .code ≢ 7 → w .code ≢ 8 → w .code ≡ 0
-  -- "so that reading them yields that station"
+  -- WRITE-2: "so that reading them yields that station"
   pub reads-back : w .code ≡ 0 → Describes (take (lengthOf st) (w .bytes)) st
-  -- "Bytes past the sheet's length are untouched."
+  -- WRITE-1: "Bytes past the sheet's length are untouched."
   pub past-untouched : w .code ≡ 0 → drop (lengthOf st) (w .bytes) ≡ drop (lengthOf st) buffer
 
--- what document 02 asks of the answer w of writing the station of an accepted sheet s into a
--- buffer: "a sheet that was read and written comes out byte for byte"
+-- what WRITE-2 asks of the answer w of writing the station of an accepted sheet s into a buffer: "a
+-- sheet that was read and written comes out byte for byte"
 pub record SheetLaws (s buffer : List ℕ) (w : SheetWritten) : Type 0 where
   -- as the whole of a buffer of its length ..
   pub byte-for-byte : length buffer ≡ length s → w ≡ record { code = 0; bytes = s }
@@ -45,7 +45,7 @@ pub record SheetLaws (s buffer : List ℕ) (w : SheetWritten) : Type 0 where
 abbrev pub copyAnswer : ℕ → List ℕ → SheetCopied
 copyAnswer number bytes = record { found = record { code = number; index = 0 }; bytes = bytes }
 
--- any bytes s, copied as a sheet
+-- WRITE-5: any bytes s, copied as a sheet
 pub record CopyLaws (s buffer : List ℕ) : Type 0 where
   -- the sheet's number and index, with the buffer untouched
   pub refused :

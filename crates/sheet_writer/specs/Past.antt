@@ -1,4 +1,4 @@
--- Document 01: "Records past P and R are 0 in the station."
+-- SHEET-12 (docs/RULES.md): "Records past P and R are 0 in the station."
 use mathlib.Core.Bool.{Bool, _&&_}
 use mathlib.Core.List.{List}
 use Prim.Native.Nat.{ℕ, _-_, min}
@@ -25,10 +25,10 @@ isZeroRoute r =
 abbrev pub allPast : (ℕ → Bool) → ℕ → Bool
 allPast test count = allFrom test (min count 64) (64 - min count 64)
 
--- no turnout record past P has a number that is not 0
+-- WRITE-3: no turnout record past P has a number that is not 0
 unfoldable pub turnoutsEnd : ℕ → List Turnout → Bool
 turnoutsEnd p ts = allPast (λ n. isZeroTurnout (getD ts n emptyTurnout)) p
 
--- no route past R has one
+-- WRITE-3: no route past R has one
 unfoldable pub routesEnd : ℕ → List Route → Bool
 routesEnd r rs = allPast (λ n. isZeroRoute (getD rs n emptyRoute)) r

@@ -1,4 +1,4 @@
--- The writer of station sheets: document 02, M-100.
+-- The writer of station sheets: WRITE-1 to WRITE-5 (docs/RULES.md).
 use mathlib.Core.Bool.{Bool, cond, not, _&&_}
 use mathlib.Core.List.{List}
 use Prim.Native.Nat.{ℕ}
@@ -12,9 +12,9 @@ use Rattle.sheet.specs.Sheet.{judged, readSheet, findingOf}
 use Rattle.sheet_bytes.specs.SheetBytes.{sheetBytes}
 use Rattle.sheet_writer.specs.Past.{turnoutsEnd, routesEnd}
 
--- Some sheet describes the station, as it stands: it is one that the reader gives with 0. Its
--- counts are in range, it is judged good, and nothing stands past P and R. No count is read as its
--- limit here.
+-- WRITE-3: some sheet describes the station, as it stands: it is one that the reader gives with 0.
+-- Its counts are in range, it is judged good, and nothing stands past P and R. No count is read as
+-- its limit here.
 unfoldable pub described : Station → Bool
 described st =
     countsKept (st .turnouts) (st .routes) (st .zones)
@@ -31,9 +31,10 @@ pub record SheetWritten : Type 0 where
   pub code : ℕ
   pub bytes : List ℕ
 
--- "Turned away: 7, a station that, as it stands, no sheet describes; then 8, a buffer shorter than
--- the sheet; both after nothing else, with the buffer untouched." Otherwise the sheet's bytes stand
--- at the start of the buffer: "Bytes past the sheet's length are untouched."
+-- WRITE-3, WRITE-4: "Turned away: 7, a station that, as it stands, no sheet describes; then 8, a
+-- buffer shorter than the sheet; both after nothing else, with the buffer untouched." Otherwise the
+-- sheet's bytes stand at the start of the buffer; WRITE-1: "Bytes past the sheet's length are
+-- untouched."
 unfoldable pub writtenSheet : Station → List ℕ → SheetWritten
 writtenSheet st buffer =
     cond (not (described st)) (record { code = 7; bytes = buffer })
@@ -46,8 +47,8 @@ pub record SheetCopied : Type 0 where
   pub found : Finding
   pub bytes : List ℕ
 
--- The house's call for those to whom a station does not cross: a sheet, read and written into a
--- buffer. The sheet's own number and index, with the buffer untouched; else what writing its
+-- WRITE-5, the house's call for those to whom a station does not cross: a sheet, read and written
+-- into a buffer. The sheet's own number and index, with the buffer untouched; else what writing its
 -- station gives.
 unfoldable pub copiedSheet : List ℕ → List ℕ → SheetCopied
 copiedSheet sheet buffer =

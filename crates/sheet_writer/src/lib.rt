@@ -1,6 +1,6 @@
-// The writer of station sheets (document 02, M-100). The rules are in specs/Writer.antt, the bytes of a station in
-// the crate `sheet_bytes`. specs/Laws.antt says what follows: what is written reads as the station, and a sheet that
-// is read and written is the same bytes.
+// The writer of station sheets (WRITE-1 to WRITE-5 of docs/RULES.md). The rules are in specs/Writer.antt, the bytes of
+// a station in the crate `sheet_bytes`. specs/Laws.antt says what follows: what is written reads as the station, and a
+// sheet that is read and written is the same bytes.
 ghost use mathlib.Core.Path.{_≡_};
 ghost use Rattle.sheet_writer.specs.Writer.{described, writtenSheet, copiedSheet};
 use sheet::Finding;
@@ -8,12 +8,12 @@ use station::Station;
 
 mod past;
 
-// The numbers that turn a station away.
+// The numbers that turn a station away (WRITE-3, WRITE-4).
 pub const NO_SHEET: u8 = 7;
 
 pub const SHORT_BUFFER: u8 = 8;
 
-// Whether some sheet describes the station, as it stands.
+// Whether some sheet describes the station, as it stands (WRITE-3).
 fn is_described(st: Station) -> bool
     ensures { λ b. ⌜ b ≡ described st ⌝ }
 {
@@ -26,7 +26,7 @@ fn is_described(st: Station) -> bool
         & past::routes_end(st.routes, rs)
 }
 
-// Writes the sheet of a station at the start of a buffer.
+// Writes the sheet of a station at the start of a buffer (WRITE-1 to WRITE-4).
 pub fn write_sheet(st: Station, s: &mut [u8]) -> u8
     ensures { λ r. ⌜ record { code = r; bytes = now (s .exit) } ≡ writtenSheet st (now (s .entry)) ⌝ }
 {
@@ -40,7 +40,7 @@ pub fn write_sheet(st: Station, s: &mut [u8]) -> u8
     0
 }
 
-// Reads a sheet and writes it into a buffer. It never gives 7.
+// Reads a sheet and writes it into a buffer (WRITE-5). It never gives 7.
 pub fn copy_sheet(sheet: &[u8], s: &mut [u8]) -> Finding
     ensures { λ r. ⌜ record { found = r; bytes = now (s .exit) } ≡ copiedSheet (now (sheet .entry)) (now (s .entry)) ⌝ }
 {

@@ -1,4 +1,4 @@
-// What stands in a station past its counts.
+// What stands in a station past its counts: SHEET-12 and WRITE-3 (docs/RULES.md).
 ghost use mathlib.Core.Path.{_≡_};
 ghost use Rattle.sheet_writer.specs.Past.{isZeroTurnout, isZeroRoute, turnoutsEnd, routesEnd};
 use station::ROUTES;

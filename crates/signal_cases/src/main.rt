@@ -1,20 +1,21 @@
-// Asks `signals::judge` one question for each sentence of document 01's verdicts and for each flag that matters
-// there, and prints a line for each: line, signal, flags, code, verdict. The file `stdout` has what document 01 says.
+// Asks `signals::judge` one question for each sentence of SIGNAL-1 to SIGNAL-10 (docs/RULES.md) and for each flag that
+// matters there, and prints a line for each: line, signal, flags, code, verdict. The expected lines are in `stdout`,
+// written from these rules by hand.
 
 // The questions: line, signal, flags. Flags: 1 held, 2 day, 4 SSC fitted, 8 ensured, 16 lights touched, 32 cannot
 // light wrongly.
 const CASES: [[u8; 3]; 79] = [
-    // "Line 1 signal 5: 6", before all else: held, by day, with lights touched
+    // SIGNAL-4: "Line 1 signal 5: 6", before all else: held, by day, with lights touched
     [1, 5, 0],
     [1, 5, 1],
     [1, 5, 2],
     [1, 5, 16],
     [1, 5, 17],
-    // "Else lights touched and (line 3 ..": with flag 32, even if held
+    // SIGNAL-5: "Else lights touched and (line 3 ..": with flag 32, even if held
     [3, 0, 48],
     [3, 0, 49],
     [3, 5, 51],
-    // ".. or not flag 32): 5", even if held, by day, or where the verdict is otherwise 4
+    // SIGNAL-5: ".. or not flag 32): 5", even if held, by day, or where the verdict is otherwise 4
     [1, 0, 17],
     [1, 0, 18],
     [2, 0, 17],
@@ -25,7 +26,7 @@ const CASES: [[u8; 3]; 79] = [
     [1, 0, 50],
     [2, 0, 49],
     [2, 5, 48],
-    // "Else held: 1": on each line, by night and by day, with SSC not ensured, with flag 32 alone
+    // SIGNAL-6: "Else held: 1": on each line, by night and by day, with SSC not ensured, with flag 32 alone
     [1, 0, 1],
     [1, 2, 3],
     [1, 1, 5],
@@ -35,13 +36,13 @@ const CASES: [[u8; 3]; 79] = [
     [3, 0, 1],
     [3, 5, 1],
     [3, 0, 33],
-    // "Else line 3: 5": by night and by day, and signal 5 exists there
+    // SIGNAL-7: "Else line 3: 5": by night and by day, and signal 5 exists there
     [3, 0, 0],
     [3, 0, 2],
     [3, 2, 2],
     [3, 5, 0],
     [3, 5, 2],
-    // line 1 "by day, with SSC absent ..": each signal; signals 1 and 2 are station K's
+    // SIGNAL-8: line 1 "by day, with SSC absent ..": each signal; signals 1 and 2 are station K's
     [1, 0, 2],
     [1, 1, 2],
     [1, 2, 2],
@@ -53,7 +54,7 @@ const CASES: [[u8; 3]; 79] = [
     // ".. or ensured"
     [1, 1, 14],
     [1, 3, 14],
-    // "failing that 5": SSC not ensured; by night, also with SSC ensured
+    // SIGNAL-8: "failing that 5": SSC not ensured; by night, also with SSC ensured
     [1, 4, 6],
     [1, 2, 6],
     [1, 0, 0],
@@ -62,7 +63,7 @@ const CASES: [[u8; 3]; 79] = [
     [1, 3, 0],
     [1, 4, 0],
     [1, 0, 12],
-    // "and line 2 signals 2 and 3": SSC absent, flag 8 alone, ensured, not ensured, by night
+    // SIGNAL-8: "and line 2 signals 2 and 3": SSC absent, flag 8 alone, ensured, not ensured, by night
     [2, 2, 2],
     [2, 3, 2],
     [2, 2, 10],
@@ -72,13 +73,13 @@ const CASES: [[u8; 3]; 79] = [
     [2, 3, 6],
     [2, 2, 0],
     [2, 3, 0],
-    // "Line 2 signal 5: 4": by day and by night, with SSC not ensured and ensured
+    // SIGNAL-9: "Line 2 signal 5: 4": by day and by night, with SSC not ensured and ensured
     [2, 5, 2],
     [2, 5, 0],
     [2, 5, 6],
     [2, 5, 4],
     [2, 5, 14],
-    // "others 5": by day and by night; signal 1 by day is station K's
+    // SIGNAL-9: "others 5": by day and by night; signal 1 by day is station K's
     [2, 0, 2],
     [2, 1, 2],
     [2, 4, 2],
@@ -87,7 +88,7 @@ const CASES: [[u8; 3]; 79] = [
     // the last flags in range
     [1, 0, 63],
     [3, 5, 63],
-    // "33: line, signal or flags (above 63) out of range", "verdict 0"
+    // SIGNAL-2: "33: line, signal or flags (above 63) out of range", "verdict 0"
     [0, 0, 0],
     [4, 0, 0],
     [255, 0, 0],

@@ -7,7 +7,7 @@ use lib.Dec.{lit≤}
 use borrow.Author.Tests.{le-leb}
 use Rattle.signals.specs.Signals.{verdictRule, darkVerdict, inRange, place}
 
--- one of document 01's verdicts
+-- one of the verdicts of SIGNAL-3 (docs/RULES.md)
 abbrev pub Known : ℕ → Type 0
 Known n = (1 ≤ n) × (n ≤ 6)
 

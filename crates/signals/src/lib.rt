@@ -1,6 +1,6 @@
-// Works on signals (document 01, Art. 3.5, 3.6, 3.13): which works are allowed on a signal, from the
-// kind of line, the signal and what is known of it. The verdicts are a constant table; the rule that
-// it holds is in specs/Signals.antt.
+// Works on signals (SIGNAL-1 to SIGNAL-10 of docs/RULES.md; Art. 3.5, 3.6, 3.13): which works are allowed on a signal,
+// from the kind of line, the signal and what is known of it. The verdicts are a constant table; the rule that it holds
+// is in specs/Signals.antt.
 ghost use mathlib.Core.Path.{_≡_};
 ghost use Prim.Native.Nat.{_≤_};
 ghost use Rattle.signals.specs.Answer.{answerOf, judged, numberOf};
@@ -9,10 +9,10 @@ mod table;
 
 use table::VERDICTS;
 
-// Document 01's code of an answer to a line, a signal or flags out of range.
+// The code of an answer to a line, a signal or flags out of range (SIGNAL-2).
 pub const OUT_OF_RANGE: u8 = 33;
 
-// Document 01's verdicts 1 to 6.
+// The verdicts 1 to 6 (SIGNAL-3).
 pub enum Verdict {
     AtDanger,
     Dark,
@@ -39,7 +39,7 @@ pub fn judge(line: u8, signal: u8, flags: u8) -> Ruling
     Ruling::Given(verdict_of(VERDICTS[at]))
 }
 
-// The verdict that has a number of document 01.
+// The verdict that has a number of SIGNAL-3.
 fn verdict_of(n: u8) -> Verdict
     requires { ⌜ 1 ≤ n ⌝ }
     requires { ⌜ n ≤ 6 ⌝ }
@@ -55,7 +55,7 @@ fn verdict_of(n: u8) -> Verdict
     }
 }
 
-// Document 01's code of an answer: 0, or 33 out of range.
+// The code of an answer: 0, or 33 out of range (SIGNAL-2).
 pub fn ruling_code(ruling: Ruling) -> u8
     ensures { λ r. ⌜ r ≡ answerOf ruling .code ⌝ }
 {
@@ -65,7 +65,7 @@ pub fn ruling_code(ruling: Ruling) -> u8
     }
 }
 
-// Document 01's verdict of an answer: 1 to 6, or 0 out of range.
+// The verdict of an answer: 1 to 6, or 0 out of range (SIGNAL-2, SIGNAL-3).
 pub fn ruling_verdict(ruling: Ruling) -> u8
     ensures { λ r. ⌜ r ≡ answerOf ruling .verdict ⌝ }
 {
@@ -75,7 +75,7 @@ pub fn ruling_verdict(ruling: Ruling) -> u8
     }
 }
 
-// Document 01's number of a verdict.
+// The number of a verdict (SIGNAL-3).
 fn verdict_number(verdict: Verdict) -> u8
     ensures { λ r. ⌜ r ≡ numberOf verdict ⌝ }
 {

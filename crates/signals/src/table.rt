@@ -1,5 +1,5 @@
-// Document 01: "The verdicts are held as a table of 1,152 entries at
-// ((line - 1) × 6 + signal) × 64 + flags."
+// SIGNAL-10 (docs/RULES.md): "The verdicts are held as a table of 1,152 entries at
+// ((line - 1) × 6 + signal) × 64 + flags." Its form is FORM-5.
 pub const VERDICTS: [u8; 1152] = [
     5, // line 1, signal 0
     1,

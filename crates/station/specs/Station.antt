@@ -1,6 +1,6 @@
--- What a station says of its turnouts, routes and zones, for every station value. Document 01,
--- 'Conditions of acceptance': "a count over its limit is read as the limit, a partner not below P
--- as none, a stored route not below R names nothing".
+-- What a station says of its turnouts, routes and zones, for every station value. VALUE-1 to
+-- VALUE-3 (docs/RULES.md): "a count over its limit is read as the limit, a partner not below P as
+-- none, a stored route not below R names nothing".
 use mathlib.Core.Bool.{Bool, cond, not, _&&_, _||_}
 use mathlib.Core.List.{List}
 use Prim.Native.Nat.{ℕ, min}
@@ -22,7 +22,7 @@ emptyTurnout = record { zone = 0; partner = 0; drive = 0 }
 abbrev pub emptyRoute : Route
 emptyRoute = record { zone = 0; over = 0; flank = 0; exits = 0; reverse = 0 }
 
--- "empty station, every number 0"
+-- SHEET-12: "empty station, every number 0"
 unfoldable pub emptyStation : Station
 emptyStation = record {
   turnouts = 0;
@@ -39,7 +39,7 @@ turnoutAt st n = getD (st .turnout) n emptyTurnout
 abbrev pub routeAt : Station → ℕ → Route
 routeAt st n = getD (st .route) n emptyRoute
 
--- P, R and Z: "a count over its limit is read as the limit"
+-- P, R and Z; VALUE-1: "a count over its limit is read as the limit"
 abbrev pub turnoutCount : Station → ℕ
 turnoutCount st = min (st .turnouts) 64
 
@@ -55,7 +55,7 @@ zoneOf st n = turnoutAt st n .zone
 abbrev pub driveOf : Station → ℕ → ℕ
 driveOf st n = turnoutAt st n .drive
 
--- the turnouts tied to turnout n: itself and its partner, "a partner not below P as none"
+-- the turnouts tied to turnout n: itself and its partner; VALUE-2: "a partner not below P as none"
 unfoldable pub tiedWith : ℕ → ℕ → ℕ → ℕ
 tiedWith p n partner = union (single n) (cond (ltb partner p) (single partner) 0)
 
@@ -66,8 +66,8 @@ tiedAmong p ts n = tiedWith p n (getD ts n emptyTurnout .partner)
 unfoldable pub tied : Station → ℕ → ℕ
 tied st n = tiedAmong (turnoutCount st) (st .turnout) n
 
--- document 02, M-101, "a turnout with a partner", by the station alone: its number and the one that
--- it names are below P, also where it names itself or is not named back
+-- FIT-4, VALUE-2, "a turnout with a partner", by the station alone: its number and the one that it
+-- names are below P, also where it names itself or is not named back
 unfoldable pub hasPartner : Station → ℕ → Bool
 hasPartner st n = ltb n (turnoutCount st) && ltb (turnoutAt st n .partner) (turnoutCount st)
 
@@ -75,11 +75,11 @@ hasPartner st n = ltb n (turnoutCount st) && ltb (turnoutAt st n .partner) (turn
 unfoldable pub zoneTurnouts : Station → ℕ → ℕ
 zoneTurnouts st z = setOf (λ n. eqb (zoneOf st n) z) (turnoutCount st)
 
--- "their union is what the route names"
+-- SHEET-5: "their union is what the route names"
 abbrev pub namedBy : Route → ℕ
 namedBy r = union (union (r .over) (r .flank)) (r .exits)
 
--- route n as it counts: "a stored route not below R names nothing"
+-- route n as it counts; VALUE-3: "a stored route not below R names nothing"
 unfoldable pub theRoute : Station → ℕ → Route
 theRoute st n = cond (ltb n (routeCount st)) (routeAt st n) emptyRoute
 
@@ -96,7 +96,7 @@ routeBy count n r = cond (ltb n (min count 64)) r emptyRoute
 abbrev pub whole : ℕ → ℕ → Bool
 whole group s = within group s || not (overlaps group s)
 
--- "splitting a crossover": one end is in the set and the other is not; every turnout below P is
--- looked at, also one that its partner does not name back
+-- KIND-1.2, KIND-10.2, VALUE-2, "splitting a crossover": one end is in the set and the other is
+-- not; every turnout below P is looked at, also one that its partner does not name back
 unfoldable pub splits : Station → ℕ → Bool
 splits st s = not (allFrom (λ n. whole (tied st n) s) 0 (turnoutCount st))

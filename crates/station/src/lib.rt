@@ -1,6 +1,6 @@
-// Stations (document 01, 'Station sheet'): what a station says of its turnouts, routes and zones. The rules are in
-// specs/Station.antt. Every function takes any station value, also one that no sheet gave. The crate `sheet` reads a
-// station.
+// Stations: what a station says of its turnouts, routes and zones (SHEET-2 to SHEET-9 and VALUE-1 to VALUE-3 of
+// docs/RULES.md). The rules are in specs/Station.antt. Every function takes any station value, also one that no sheet
+// gave. The crate `sheet` reads a station.
 ghost use mathlib.Core.Path.{_≡_};
 ghost use Prim.Native.Nat.{_<_};
 ghost use Rattle.station.specs.Station.{
@@ -55,21 +55,21 @@ pub struct Station {
     pub zones: u8,
 }
 
-// How many turnouts, at most 64.
+// How many turnouts, at most 64 (VALUE-1).
 pub fn turnout_count(st: Station) -> usize
     ensures { λ r. ⌜ r ≡ turnoutCount st ⌝ }
 {
     observe::at_most_64(st.turnouts)
 }
 
-// How many routes, at most 64.
+// How many routes, at most 64 (VALUE-1).
 pub fn route_count(st: Station) -> usize
     ensures { λ r. ⌜ r ≡ routeCount st ⌝ }
 {
     observe::at_most_64(st.routes)
 }
 
-// How many zones, at most 8.
+// How many zones, at most 8 (VALUE-1).
 pub fn zone_count(st: Station) -> usize
     ensures { λ r. ⌜ r ≡ zoneCount st ⌝ }
 {
@@ -98,7 +98,7 @@ pub fn drive_of(st: Station, n: usize) -> u8
     t.drive
 }
 
-// The turnouts tied to a turnout: itself and its partner.
+// The turnouts tied to a turnout: itself and its partner (VALUE-2).
 pub fn tied_to(st: Station, n: usize) -> u64
     ensures { λ r. ⌜ r ≡ tied st n ⌝ }
 {
@@ -107,7 +107,7 @@ pub fn tied_to(st: Station, n: usize) -> u64
     observe::tied_with(turnout_count(st), n, t.partner)
 }
 
-// Whether a turnout has a partner: it is one of the station's, and so is its partner.
+// Whether a turnout has a partner: it is one of the station's, and so is its partner (FIT-4, VALUE-2).
 pub fn has_partner(st: Station, n: usize) -> bool
     ensures { λ r. ⌜ r ≡ hasPartner st n ⌝ }
 {
@@ -148,7 +148,7 @@ pub fn first_code(test: bool, code: u8, rest: u8) -> u8
     if test { code } else { rest }
 }
 
-// A route; one not below R has every number 0 and names nothing.
+// A route; one not below R has every number 0 and names nothing (VALUE-3).
 pub fn route_of(st: Station, n: usize) -> Route
     ensures { λ r. ⌜ r ≡ theRoute st n ⌝ }
 {
@@ -182,14 +182,15 @@ pub fn route_by(count: u8, n: u8, r: Route) -> Route
     observe::no_route()
 }
 
-// The turnouts that a route names: those that it runs over, of its flank and of its exit zone.
+// The turnouts that a route names: those that it runs over, of its flank and of its exit zone (SHEET-5).
 pub fn names(r: Route) -> u64
     ensures { λ s. ⌜ s ≡ namedBy r ⌝ }
 {
     sets::join(sets::join(r.over, r.flank), r.exits)
 }
 
-// Whether a set has one end of a crossover and not the other. The loop counts in eight bits (document 02, M-104).
+// Whether a set has one end of a crossover and not the other (KIND-1.2, VALUE-2). The loop counts in eight bits
+// (VALUE-1, M-104).
 pub fn splits_crossover(st: Station, s: u64) -> bool
     ensures { λ r. ⌜ r ≡ splits st s ⌝ }
 {

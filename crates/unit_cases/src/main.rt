@@ -1,8 +1,8 @@
-// Tries the unit on station K of document 01 and on a second station. The unit is proved to follow the rules in its
-// crate's specs/; what this program writes shows that these rules give the answers that documents 01 and 02 do, and
-// that a desk's bytes stand where the layout says.
-// Both stations' sheets are in data/, the cases are in stdin and the expected lines in stdout, written from the
-// documents and the layout; no expected number stands here.
+// Tries the unit (UNIT-1 to UNIT-6 of docs/RULES.md) on station K and on a second station. The unit is proved to
+// follow the rules in its crate's specs/; what this program writes shows that these rules give the answers that
+// docs/RULES.md does, and that a desk's bytes stand where the layout says.
+// Both stations' sheets are in data/, the cases are in stdin and the expected lines in stdout, written from the rules
+// and the layout by hand; no expected number stands here.
 //
 // One desk is kept from row to row, in a buffer of 521 bytes that are 7 at first. A row of the input that starts with
 // # is a remark; an empty row ends the input. Any other row starts with a name, which is written, and a number;

@@ -1,5 +1,5 @@
-// Runs stored cases through the desk and prints what it answers. The cases are in data/cases and the expected lines
-// in stdout; both were written by the further implementation of documents 01 and 02, in reference/, which shares
+// Runs stored cases through the desk and prints what it answers. The cases are in data/cases and the expected lines in
+// stdout; both were written by the further implementation of the rules (docs/RULES.md), in reference/, which shares
 // nothing with the desk. What is proved here is that the program is safe and ends.
 //
 // A case: its kind (1 byte), two numbers x and y (4 bytes each), the lengths of two parts a and b (2 bytes each), all

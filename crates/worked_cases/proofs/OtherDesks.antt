@@ -1,4 +1,5 @@
--- The desks that documents 01 and 02 turn down do not meet demand 3, shown on station K.
+-- The desks that ACCEPT-3 (docs/RULES.md) and requests turn down do not meet demand 3, shown on
+-- station K.
 use mathlib.Core.Bool.{true, false, and-eq-true-iff, true≢false}
 use mathlib.Core.List.{List, [], _∷_}
 use mathlib.Core.Path.{_≡_, refl, sym, ap, _∙_}

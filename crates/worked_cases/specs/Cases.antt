@@ -1,5 +1,5 @@
--- Station K: the cases that document 01 marks *, and those worked for document 02's requests, as
--- one statement over the written rules.
+-- Station K: its cases K-2 to K-10 (docs/RULES.md), and those worked for the requests, as one
+-- statement over the written rules (ACCEPT-4).
 use mathlib.Core.Bool.{true, false}
 use mathlib.Core.List.{[], _∷_, _++_, map}
 use mathlib.Core.Path.{_≡_}
@@ -28,7 +28,9 @@ use Rattle.worked_cases.specs.StationK.{nextAsked, nextTrain, nextHeard,
 use Rattle.worked_cases.specs.StationK.{GetsAfter, movementAfter, openAfter}
 
 pub record Cases : Type 0 where
+  -- K-1: the sheet is accepted
   pub sheet : readSheet sheetK .code ≡ 0
+  -- K-2: the answers to the records
   pub output :
       answers ours stationK freshDesk recordsK
       ≡ reply 0 0
@@ -43,27 +45,27 @@ pub record Cases : Type 0 where
       ∷ reply 0 0
       ∷ reply 0 2
       ∷ []
-  -- the same as the program prints it, from the bytes of the two files
+  -- K-2: the same as the program prints it, from the bytes of the two files
   pub journal : records journalK ≡ map encoded messagesK
   pub text : textOf (replayedK .code) (replayedK .bytes) (counted journalK) ≡ linesK
-  -- "After record 3 turnout 0 is open to work; after 6 not, though 1 is; after 10 still not."
+  -- K-3: "After record 3 turnout 0 is open to work; after 6 not, though 1 is; after 10 still not."
   pub open-3 : openK 3 0 ≡ true
   pub shut-6 : openK 6 0 ≡ false
   pub other-6 : openK 6 1 ≡ true
   pub shut-10 : openK 10 0 ≡ false
-  -- "Fresh: asking {0}: 17; {0,1}: 0; a set with turnout 3: 17."
+  -- K-4: "Fresh: asking {0}: 17; {0,1}: 0; a set with turnout 3: 17."
   pub one-end : answersK (naming 1 0 7 1 0 1 ∷ []) ≡ reply 17 0 ∷ []
   pub both-ends : answersK (naming 1 0 7 3 0 1 ∷ []) ≡ reply 0 0 ∷ []
   pub turnout-3 : answersK (naming 1 0 7 8 0 1 ∷ []) ≡ reply 17 0 ∷ []
   pub turnout-3-too : answersK (naming 1 0 7 11 0 1 ∷ []) ≡ reply 17 0 ∷ []
-  -- "{2} agreed under verbal, b {2}: 22; a {2}: 0."
+  -- K-5: "{2} agreed under verbal, b {2}: 22; a {2}: 0."
   pub verbal-b :
       answersK (verbal ++ (naming 4 20 9 0 4 0 ∷ []))
       ≡ reply 0 0 ∷ reply 0 0 ∷ reply 22 0 ∷ []
   pub verbal-a :
       answersK (verbal ++ (naming 4 20 9 4 0 0 ∷ []))
       ≡ reply 0 0 ∷ reply 0 0 ∷ reply 0 0 ∷ []
-  -- "There, movement asked: declaration 3: 20; 8 with clamp 1: 20; 8 with 0: 0."
+  -- K-6: "There, movement asked: declaration 3: 20; 8 with clamp 1: 20; 8 with 0: 0."
   pub declaration-3 :
       answersK (verbalMovement ++ (clearing 30 600 2 3 0 1 ∷ []))
       ≡ reply 0 0 ∷ reply 0 0 ∷ reply 0 0 ∷ reply 20 0 ∷ []
@@ -73,31 +75,31 @@ pub record Cases : Type 0 where
   pub declaration-8 :
       answersK (verbalMovement ++ (clearing 30 600 2 8 0 1 ∷ []))
       ≡ reply 0 0 ∷ reply 0 0 ∷ reply 0 0 ∷ reply 0 0 ∷ []
-  -- "Recorder out: voice 21, written 0."
+  -- K-7: "Recorder out: voice 21, written 0."
   pub voice :
       answersK (recorderOut ++ (clearing 30 600 2 8 0 1 ∷ []))
       ≡ reply 0 0 ∷ reply 0 0 ∷ reply 0 0 ∷ reply 0 0 ∷ reply 21 0 ∷ []
   pub written :
       answersK (recorderOut ++ (clearing 30 600 2 8 0 2 ∷ []))
       ≡ reply 0 0 ∷ reply 0 0 ∷ reply 0 0 ∷ reply 0 0 ∷ reply 0 0 ∷ []
-  -- "Time equal to the last: 0; one less: 14."
+  -- K-8: "Time equal to the last: 0; one less: 14."
   pub time-equal : answersK (naming 1 5 7 3 0 1 ∷ plain 2 5 7 ∷ []) ≡ reply 0 0 ∷ reply 0 0 ∷ []
   pub time-less : answersK (naming 1 5 7 3 0 1 ∷ plain 2 4 7 ∷ []) ≡ reply 0 0 ∷ reply 14 0 ∷ []
-  -- "60 s: 1"; document 02, M-103: "30 seconds give 0, 90 give 2, 150 give 2 .. and the case of 59
-  -- seconds becomes 1."
+  -- K-9: "60 s: 1"; M-103: "30 seconds give 0, 90 give 2, 150 give 2 .. and the case of 59 seconds
+  -- becomes 1."
   pub seconds-30 : RestoredAfter 30 0
   pub seconds-59 : RestoredAfter 59 1
   pub seconds-60 : RestoredAfter 60 1
   pub seconds-90 : RestoredAfter 90 2
   pub seconds-150 : RestoredAfter 150 2
-  -- "Line 1, by day, not held, no SSC, no lights: signal 1 gives 3, signal 2 gives 2; line 2 signal
-  -- 1 gives 5."
+  -- K-10: "Line 1, by day, not held, no SSC, no lights: signal 1 gives 3, signal 2 gives 2; line 2
+  -- signal 1 gives 5."
   pub signal-1 : Verdicts.judged 1 1 2 ≡ record { code = 0; verdict = 3 }
   pub signal-2 : Verdicts.judged 1 2 2 ≡ record { code = 0; verdict = 2 }
   pub line-2 : Verdicts.judged 2 1 2 ≡ record { code = 0; verdict = 5 }
-  -- document 02, M-101: "Declarations 1 and 2 on a turnout with a partner need d5 = 1. In every
-  -- other clearance d5 is 0. A clearance breaking this gets 20; a d5 above 1 gets 13." Turnout 0 is
-  -- one end of a crossover, turnout 2 is alone
+  -- FIT-4: "Declarations 1 and 2 on a turnout with a partner need d5 = 1. In every other clearance
+  -- d5 is 0. A clearance breaking this gets 20; a d5 above 1 gets 13." Turnout 0 is one end of a
+  -- crossover, turnout 2 is alone
   pub covers-one : GetsFourth crossover (cleared0 1 0) 20
   pub covers-both : GetsFourth crossover (cleared0 1 1) 0
   pub covers-one-2 : GetsFourth crossover (cleared0 2 0) 20
@@ -107,26 +109,28 @@ pub record Cases : Type 0 where
   pub alone-covers-itself : GetsFourth verbalMovement (cleared2 1 0) 0
   pub d5-2 : GetsFourth crossover (cleared0 1 2) 13
   pub alone-d5-2 : GetsFourth verbalMovement (cleared2 1 2) 13
-  -- document 02, M-105, in the first scene: turnout 0 is not worked; a Tcl on turnout 2, which is
+  -- KIND-13.3, KIND-13.4, in the first scene: turnout 0 is not worked; a Tcl on turnout 2, which is
   -- flank, is accepted
   pub key-not-worked : GetsAfter scene1 (keying 120 512 0 2) 17
   pub key-Tcl : GetsAfter scene1 (keying 120 512 2 1) 0
   pub key-Es : GetsAfter scene1 (keying 120 512 2 2) 0
-  -- turnout 2 lacked, then none lacks; clear may be ordered, and turnout 2 is still open to work
+  -- KIND-13.5: turnout 2 lacked, then none lacks; clear may be ordered, and turnout 2 is still open
+  -- to work
   pub lacking-before : movementAfter scene1 512 ≡ movementTold Held 2 1
   pub lacking-after : movementAfter keyed2 512 ≡ movementTold Clear 255 0
   pub clear-ordered : GetsAfter keyed2 (naming 7 125 512 0 0 1) 0
   pub open-with-key : openAfter keyed2 2 ≡ true
-  -- "A second key or a clearance on it gets 16"
+  -- KIND-6.2, KIND-13.2: "A second key or a clearance on it gets 16"
   pub second-Tcl : GetsAfter keyed2 (keying 125 512 2 1) 16
   pub second-Es : GetsAfter keyed2 (keying 125 512 2 2) 16
   pub clearance-over-key : GetsAfter keyed2 (declaring 125 512 2 1 0) 16
-  -- "Keys lapse when the train passes or the movement is cancelled": the next train lacks turnout 2
+  -- KIND-8.3, KIND-9.3: "Keys lapse when the train passes or the movement is cancelled": the next
+  -- train lacks turnout 2
   pub lapsed-passed : movementAfter nextTrain 600 ≡ movementTold Held 2 1
   pub lapsed-cancelled :
       movementAfter (keyedThen (plain 9 130 512 ∷ nextAsked ∷ [])) 600
       ≡ movementTold Held 2 1
-  -- in the second scene turnout 0 is run over
+  -- KIND-13.4: in the second scene turnout 0 is run over
   pub key-over-Es : GetsFourth crossover (keying 120 512 0 2) 23
   pub key-over-Tcl : GetsFourth crossover (keying 120 512 0 1) 23
   -- the accepted messages after records 3, 6, 8, 10 and 11 are those that the history's words are

@@ -1,8 +1,8 @@
--- Desks that document 01 turns down: "one always held; one that keeps no state", the second as one
--- whose work answer does not depend on what it heard, and as one that stays fresh. And those that
--- are turned down since document 02's requests: M-101, one that takes a clearance for one of both
--- ends; M-105, one that accepts a key and still lacks the turnout, and one whose keys outlive the
--- train.
+-- Desks that ACCEPT-3 (docs/RULES.md) turns down: "one always held; one that keeps no state", the
+-- second as one whose work answer does not depend on what it heard, and as one that stays fresh.
+-- And those that are turned down since the requests: M-101 (FIT-4), one that takes a clearance for
+-- one of both ends; M-105 (KIND-13.5, KIND-8.3), one that accepts a key and still lacks the
+-- turnout, and one whose keys outlive the train.
 use mathlib.Core.Bool.{cond, _&&_}
 use Prim.Native.Nat.{ℕ}
 use lib.Dec.{eqb}
@@ -37,7 +37,7 @@ forgets st d i = record { reply = hears st d i .reply; state = freshDesk }
 abbrev pub staysFresh : Model
 staysFresh = onDesks forgets movementAnswered workAnswered
 
--- document 02, M-101: a clearance of declaration 1 as one that covers both ends
+-- against FIT-4: a clearance of declaration 1 as one that covers both ends
 abbrev pub forBoth : Message → Message
 forBoth m = record {
   kind = m .kind;
@@ -62,7 +62,7 @@ hearsForBoth st d (bytes s) = hears st d (bytes s)
 abbrev pub takesForBoth : Model
 takesForBoth = onDesks hearsForBoth movementAnswered workAnswered
 
--- document 02, M-105: a desk that accepts keys and keeps none; a record it hears as it is
+-- against KIND-13.5: a desk that accepts keys and keeps none; a record it hears as it is
 abbrev pub hearsNoKeys : Station → Desk → Input → Heard Desk
 hearsNoKeys st d (message m) = record {
   reply = hears st d (message m) .reply;
@@ -102,7 +102,8 @@ keysPut s =
     } in
     record { zones = set (s .desk .zones) 0 keyed }
 
--- a desk whose keys outlive the train: it answers the movement question with all of them
+-- against KIND-8.3: a desk whose keys outlive the train: it answers the movement question with all
+-- of them
 abbrev pub gathersKeys : Station → WithKeys → Input → Heard WithKeys
 gathersKeys st s i =
     let h = hears st (s .desk) i in

@@ -1,4 +1,5 @@
--- Station K: its sheet, its records, and the lists of messages that its cases are worked on.
+-- Station K, K-1 and K-2 (docs/RULES.md): its sheet, its records, and the lists of messages that
+-- its cases are worked on.
 use mathlib.Core.Bool.{Bool}
 use mathlib.Core.List.{List, [], _∷_, _++_, map, foldr}
 use mathlib.Core.Path.{_≡_}
@@ -18,7 +19,7 @@ use Rattle.history.specs.CaseMessages.{plain, naming, clearing, declaring, repl
 use Rattle.history.specs.Cases.{asked, keyed2}
 use Rattle.replay.specs.Replay.{replayed}
 
--- "P = 3, Z = 1, R = 1; 0 and 1 an electric crossover, 2 alone by hand; route 0 runs over {0},
+-- K-1: "P = 3, Z = 1, R = 1; 0 and 1 an electric crossover, 2 alone by hand; route 0 runs over {0},
 -- flank {2}, reverse empty: 50 bytes."
 abbrev pub sheetK : List ℕ
 sheetK =
@@ -36,9 +37,9 @@ sheetK =
 abbrev pub stationK : Station
 stationK = readSheet sheetK .station
 
--- "Records, all zone 0: 1 (t 0, id 7, M.45, {0,1}); 2 (t 90); 4 (t 100, a {0,1}); 5 (t 110, train
--- 512, route 0); 7 clear (t 111); 6 (t 115, turnout 0, declaration 3, normal, 0, voice); 7 clear (t
--- 116); 7 danger (t 117); 11 (t 118); 8 (t 130); 11 (t 209)."
+-- K-2: "Records, all zone 0: 1 (t 0, id 7, M.45, {0,1}); 2 (t 90); 4 (t 100, a {0,1}); 5 (t 110,
+-- train 512, route 0); 7 clear (t 111); 6 (t 115, turnout 0, declaration 3, normal, 0, voice); 7
+-- clear (t 116); 7 danger (t 117); 11 (t 118); 8 (t 130); 11 (t 209)."
 abbrev pub messagesK : List Message
 messagesK =
     naming 1 0 7 3 0 1
@@ -58,8 +59,8 @@ messagesK =
 abbrev pub recordsK : List Input
 recordsK = map (λ (m : Message). bytes (encoded m)) messagesK
 
--- the journal that holds them: "WKJ, version (16 bits, 1), count (32 bits ..), seven zeros; then
--- the records"
+-- the journal that holds them; JOURNAL-1: "WKJ, version (16 bits, 1), count (32 bits ..), seven
+-- zeros; then the records"
 abbrev pub journalK : List ℕ
 journalK =
     87 ∷ 75 ∷ 74 ∷ 0 ∷ 1 ∷ 0 ∷ 0 ∷ 0 ∷ 11 ∷ 0 ∷ 0 ∷ 0 ∷ 0 ∷ 0 ∷ 0 ∷ 0
@@ -69,8 +70,8 @@ journalK =
 abbrev pub replayedK : WriteAnswer
 replayedK = replayed sheetK journalK (replicate 55 0)
 
--- "Output, whole", in ASCII: the numbers of a line, a space (32) between them, a line end (10); the
--- last line by document 02, M-103: "In station K the last line becomes '11 0 2'"
+-- K-2, "Output, whole", in ASCII: the numbers of a line, a space (32) between them, a line end
+-- (10); the last line by M-103: "In station K the last line becomes '11 0 2'"
 abbrev pub linesK : List ℕ
 linesK =
     49 ∷ 32 ∷ 48 ∷ 32 ∷ 48 ∷ 10
@@ -108,7 +109,7 @@ verbalMovement = verbal ++ (naming 5 20 600 0 0 0 ∷ [])
 abbrev pub recorderOut : List Message
 recorderOut = verbalMovement ++ (naming 12 25 0 0 0 0 ∷ [])
 
--- all restored so many seconds after the agreement, and the minutes of it
+-- K-9: all restored so many seconds after the agreement, and the minutes of it
 abbrev pub RestoredAfter : ℕ → ℕ → Type 0
 RestoredAfter seconds minutes =
     answersK (verbal ++ (plain 11 (10 + seconds) 9 ∷ []))
@@ -138,7 +139,7 @@ abbrev pub GetsFourth : List Message → Message → ℕ → Type 0
 GetsFourth ms m code =
     answersK (ms ++ (m ∷ [])) ≡ reply 0 0 ∷ reply 0 0 ∷ reply 0 0 ∷ reply code 0 ∷ []
 
--- document 02, M-105, the first scene: {2} agreed and its detection off, a movement asked for
+-- M-105 (KIND-13), the first scene: {2} agreed and its detection off, a movement asked for
 abbrev pub scene1 : List Message
 scene1 = take 4 keyed2
 

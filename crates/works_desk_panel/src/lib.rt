@@ -1,5 +1,5 @@
-// The static library of the cabin panel (document 02, M-102), a product of its own, for firmware in C or Rust: a byte
-// slice goes as a pointer and a length. It takes any bytes.
+// The static library of the cabin panel (PANEL-1 to PANEL-3 of docs/RULES.md), a product of its own, for firmware in C
+// or Rust: a byte slice goes as a pointer and a length. It takes any bytes.
 ghost use mathlib.Core.Path.{_≡_};
 ghost use Rattle.works_desk_panel.specs.Packed.{panelPacked};
 

@@ -1,4 +1,5 @@
-// What the level Line adds to the static library `works_desk_journal`: the verdicts for works on signals.
+// What the level Line adds to the static library `works_desk_journal`: the verdicts for works on signals (SIGNAL-1 to
+// SIGNAL-10 of docs/RULES.md).
 ghost use mathlib.Core.Path.{_≡_};
 ghost use Rattle.signals.specs.Answer.{judged};
 ghost use Rattle.works_desk_signals.specs.Packed.{verdictPacked};

@@ -1,5 +1,6 @@
--- Demand 3's sentences on the two questions in the numbers that the unit's calls return: 'yes' and
--- 'signals clear' are a 1 in byte 1. And what is accepted: a 0 in byte 0.
+-- Demand 3's sentences on the two questions, HIST-10 and HIST-11 (docs/RULES.md), in the numbers
+-- that the unit's calls return: 'yes' and 'signals clear' are a 1 in byte 1. And what is accepted:
+-- a 0 in byte 0.
 use mathlib.Core.Bool.{true}
 use mathlib.Core.List.{List}
 use mathlib.Core.Path.{_≡_}
@@ -23,14 +24,14 @@ pub record CallsHold (sheet : List ℕ) (inputs : List Input) : Type 0 where
       (r : List ℕ)
       → let a = unitApplied sheet (deskAfter (unitOf sheet) (readSheet sheet .station) inputs) r in
       AnswerBytes (a .code) (a .minutes)
-  -- unit_work: "the desk says yes exactly when that turnout is open to work"
+  -- unit_work, HIST-10: "the desk says yes exactly when that turnout is open to work"
   pub work :
       (t : ℕ)
       → let st = readSheet sheet .station in
       (byteOf 1 (workPacked (unitWork sheet (deskAfter (unitOf sheet) st inputs) t)) ≡ 1)
       ↔ ((z : ℕ) × (openToWork t (zoneMessages (unitOf sheet) st inputs z) ≡ true))
-  -- unit_movement: "A standing movement is answered 'signals clear' exactly when each turnout of
-  -- its route under agreed work has .."
+  -- unit_movement, HIST-11: "A standing movement is answered 'signals clear' exactly when each
+  -- turnout of its route under agreed work has .."
   pub clear :
       (z : ℕ) (f : Message) (rest : List Message)
       → let st = readSheet sheet .station in
@@ -39,7 +40,8 @@ pub record CallsHold (sheet : List ℕ) (inputs : List Input) : Type 0 where
       (movementPacked (unitMovement sheet (deskAfter (unitOf sheet) st inputs) z (f .id))) ≡ 1)
       ↔ EachWorkedAllowsClear st (zoneMessages (unitOf sheet) st inputs z) f rest
 
--- after every list of records that a unit has heard one by one, on every sheet that is accepted
+-- UNIT-5: after every list of records that a unit has heard one by one, on every sheet that is
+-- accepted
 abbrev pub CallsDemand3 : Type 0
 CallsDemand3 =
     (sheet : List ℕ) → readSheet sheet .code ≡ 0 → (inputs : List Input) → Each IsRecord inputs

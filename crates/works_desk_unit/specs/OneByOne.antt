@@ -1,5 +1,5 @@
 -- A unit that hears records one by one, as a desk of the lists of hearings, so that demand 3 can be
--- said of it; and the law that it gives what replaying a journal gives.
+-- said of it; and the law that it gives what replaying a journal gives: UNIT-5 (docs/RULES.md).
 use mathlib.Core.Bool.{false}
 use mathlib.Core.List.{List, [], _∷_}
 use mathlib.Core.Path.{_≡_}
@@ -48,16 +48,16 @@ abbrev pub IsRecord : Input → Type 0
 IsRecord (message m) = ⊥
 IsRecord (bytes s) = Bytes s
 
--- demand 3 of the unit: after every list of records that it has heard one by one, on every sheet
--- that is accepted
+-- UNIT-5, demand 3 of the unit: after every list of records that it has heard one by one, on every
+-- sheet that is accepted
 abbrev pub UnitDemand3 : Type 0
 UnitDemand3 =
     (sheet : List ℕ) → readSheet sheet .code ≡ 0 → (inputs : List Input) → Each IsRecord inputs
     → Holds (unitOf sheet) (readSheet sheet .station) inputs
 
--- The law of the unit, which `one-by-one` gives of a sheet and a journal that are accepted: the
--- records of the journal, heard one by one, get the answers that replaying stores; the bytes are
--- then those of the desk after the journal; and the unit answers both questions as they are
+-- UNIT-5, the law of the unit, which `one-by-one` gives of a sheet and a journal that are accepted:
+-- the records of the journal, heard one by one, get the answers that replaying stores; the bytes
+-- are then those of the desk after the journal; and the unit answers both questions as they are
 -- answered after replaying.
 pub record OneByOne (sheet journal : List ℕ) : Type 0 where
   pub replay :

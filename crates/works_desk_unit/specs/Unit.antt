@@ -1,7 +1,7 @@
--- A unit: a desk kept in 520 bytes that the caller lends at each call. A record or a question is
--- refused by the sheet's number, then by 61 for bytes that no desk encodes to (also bytes of
--- another length), then as the desk refuses it; a fresh desk by 61 for a buffer of another length.
--- A refusal leaves the bytes as they were, and has 0 minutes.
+-- A unit, UNIT-1 to UNIT-4 and UNIT-6 (docs/RULES.md): a desk kept in 520 bytes that the caller
+-- lends at each call. A record or a question is refused by the sheet's number, then by 61 for bytes
+-- that no desk encodes to (also bytes of another length), then as the desk refuses it; a fresh desk
+-- by 61 for a buffer of another length. A refusal leaves the bytes as they were, and has 0 minutes.
 use mathlib.Core.Bool.{cond, false}
 use mathlib.Core.List.{List}
 use Prim.Native.Nat.{ℕ}
@@ -18,14 +18,14 @@ use Rattle.desk.specs.Questions.{movementRefused, movementAnswered, workAnswere
 use Rattle.desk_bytes.specs.Encoding.{deskBytes, deskIn, isDesk}
 use Rattle.packed.specs.Packed.{answerPacked}
 
--- the fresh desk in a buffer of its length
+-- UNIT-6: the fresh desk in a buffer of its length
 unfoldable pub unitFresh : List ℕ → WriteAnswer
 unitFresh desk =
     cond (eqb (length desk) 520)
     (record { code = 0; bytes = deskBytes freshDesk })
     (record { code = 61; bytes = desk })
 
--- the sheet's number, then 61 for bytes that are no desk's; 0 where both are good
+-- UNIT-3, UNIT-4: the sheet's number, then 61 for bytes that are no desk's; 0 where both are good
 abbrev pub startNumber : ℕ → List ℕ → ℕ
 startNumber code desk = cond (eqb code 0) (cond (isDesk desk) 0 61) code
 
@@ -43,18 +43,18 @@ pub record UnitAnswer : Type 0 where
   pub minutes : ℕ
   pub bytes : List ℕ
 
--- a refusal: "every other answer has 0" minutes
+-- a refusal, MINUTES-2: "every other answer has 0" minutes
 abbrev pub refusedUnit : List ℕ → ℕ → UnitAnswer
 refusedUnit desk number = record { code = number; minutes = 0; bytes = desk }
 
--- the answer of the desk, stored where it accepts
+-- UNIT-3: the answer of the desk, stored where it accepts
 unfoldable pub stored : List ℕ → Applied → UnitAnswer
 stored desk a =
     cond (eqb (a .code) 0)
     (record { code = 0; minutes = a .minutes; bytes = deskBytes (a .desk) })
     (refusedUnit desk (a .code))
 
--- a record heard by the unit
+-- UNIT-3: a record heard by the unit
 unfoldable pub unitApplied : List ℕ → List ℕ → List ℕ → UnitAnswer
 unitApplied sheet desk bytes =
     let at = started sheet desk in
@@ -70,7 +70,7 @@ pub record UnitCall : Type 0 where
 abbrev pub called : UnitAnswer → UnitCall
 called a = record { answer = answerPacked (a .code) (a .minutes); bytes = a .bytes }
 
--- the two questions; a refusal has the values of the desk's refusal
+-- UNIT-4: the two questions; a refusal has the values of the desk's refusal
 unfoldable pub unitMovement : List ℕ → List ℕ → ℕ → ℕ → MovementAnswer
 unitMovement sheet desk zone train =
     let at = started sheet desk in

@@ -1,5 +1,6 @@
--- A movement: none, or one that stands; what it says, and what the kinds do to it. Nothing else but
--- its encoding in bytes looks into a movement.
+-- A movement: none, or one that stands; what it says, and what the kinds do to it: ZONE-1, REGIME-1
+-- to REGIME-3 and the effects of KIND-5 to KIND-7 and KIND-13 (docs/RULES.md). Nothing else but its
+-- encoding in bytes looks into a movement.
 use mathlib.Core.Bool.{Bool, true, false, cond, not, _&&_}
 use Prim.Native.Nat.{ℕ}
 use lib.Dec.{eqb}
@@ -32,6 +33,7 @@ abbrev pub orderOf : Movement → ℕ
 orderOf NoMovement = 0
 orderOf (Standing p) = p .order
 
+-- ordered: 18 in KIND-7.2 and KIND-9.2; where it is not, 18 in KIND-8.2
 abbrev pub isOrdered : Movement → Bool
 isOrdered v = not (eqb (orderOf v) 0)
 
@@ -49,12 +51,12 @@ abbrev pub keySet : Movement → ℕ
 keySet NoMovement = 0
 keySet (Standing p) = p .keys
 
--- the turnouts that lack nothing: cleared, or, by document 02, M-105: "A turnout with a key counts
--- as lacking nothing"
+-- the turnouts that lack nothing: cleared, or, KIND-13.5: "A turnout with a key counts as lacking
+-- nothing"
 abbrev pub lackNothing : Movement → ℕ
 lackNothing v = union (clearedSet v) (keySet v)
 
--- the turnouts that let the signals be clear: efficient, or with a key
+-- REGIME-2, VALUE-6: the turnouts that let the signals be clear: efficient, or with a key
 abbrev pub allowClear : Movement → ℕ
 allowClear v = union (efficientSet v) (keySet v)
 
@@ -76,13 +78,13 @@ namedTurnouts st v = namedBy (routeFor st v)
 abbrev pub workedTurnouts : Route → Work → ℕ
 workedTurnouts r w = bitAnd (namedBy r) (agreedSet w)
 
--- those of them that have neither a clearance for a movement nor a key
+-- REGIME-1: those of them that have neither a clearance for a movement nor a key
 abbrev pub lackingOn : Route → Work → Movement → ℕ
 lackingOn r w v = without (workedTurnouts r w) (lackNothing v)
 
--- "Regime: of the route's turnouts under agreed work, held if one lacks a clearance, else clear if
--- all carry 1 or 2, else danger"; document 02, M-105: "'Signals clear' then means that each worked
--- turnout of the route has either its efficient clearance or its key"
+-- REGIME-1, REGIME-2, REGIME-3: "Regime: of the route's turnouts under agreed work, held if one
+-- lacks a clearance, else clear if all carry 1 or 2, else danger"; M-105: "'Signals clear' then
+-- means that each worked turnout of the route has either its efficient clearance or its key"
 unfoldable pub regimeOn : Route → Work → Movement → Regime
 regimeOn r w v =
     cond (not (isEmpty (lackingOn r w v))) Held
@@ -105,11 +107,11 @@ isClear Held = false
 isClear Clear = true
 isClear Danger = false
 
--- "Order 22: clear needs clear; danger needs not held."
+-- KIND-7.3: "Order 22: clear needs clear; danger needs not held."
 abbrev pub orderRefused : ℕ → Regime → Bool
 orderRefused order regime = cond (eqb order 1) (not (isClear regime)) (isHeld regime)
 
--- 5: "movement asked"
+-- KIND-5.3: "movement asked"
 abbrev pub movementFor : ℕ → ℕ → Movement
 movementFor train route =
     Standing (record {
@@ -121,7 +123,7 @@ movementFor train route =
       keys = 0;
     })
 
--- 6: "cleared"; efficient or not as the declaration says
+-- KIND-6.6: "cleared"; efficient or not as the declaration says
 abbrev pub clearedAt : Movement → ℕ → Bool → Movement
 clearedAt NoMovement n efficient = NoMovement
 clearedAt (Standing p) n efficient = Standing (record {
@@ -133,7 +135,7 @@ clearedAt (Standing p) n efficient = Standing (record {
   keys = p .keys;
 })
 
--- 13, document 02, M-105: "key used"; the turnout "is not cleared"
+-- KIND-13.5: "key used"; the turnout "is not cleared"
 abbrev pub keyedAt : Movement → ℕ → Movement
 keyedAt NoMovement n = NoMovement
 keyedAt (Standing p) n = Standing (record {
@@ -145,7 +147,7 @@ keyedAt (Standing p) n = Standing (record {
   keys = union (p .keys) (single n);
 })
 
--- 7: "ordered"
+-- KIND-7.4: "ordered"
 abbrev pub orderedAs : Movement → ℕ → Movement
 orderedAs NoMovement order = NoMovement
 orderedAs (Standing p) order = Standing (record {

@@ -1,6 +1,6 @@
 -- The movements of a zone, by train: what the rules, the kinds and the questions ask of them.
--- Document 01 has "one movement" in a zone; of the rules only these definitions know that there is
--- one place.
+-- ZONE-1 (docs/RULES.md) has "one movement" in a zone; of the rules only these definitions know
+-- that there is one place.
 use mathlib.Core.Bool.{Bool, cond}
 use Prim.Native.Nat.{ℕ}
 use Rattle.station.specs.declared.Station.{Station}
@@ -13,7 +13,7 @@ use Rattle.zone.specs.Movement.{isStanding, underTrain, clearedSet, name
 unfoldable pub movementUnder : Zone → ℕ → Movement
 movementUnder z train = cond (underTrain (z .movement) train) (z .movement) NoMovement
 
--- 16 of kind 5, "movement in zone": one more movement finds no place
+-- KIND-5.1: 16, "movement in zone": one more movement finds no place
 unfoldable pub noPlace : Zone → Bool
 noPlace z = isStanding (z .movement)
 
@@ -29,7 +29,7 @@ clearedStanding z = clearedSet (z .movement)
 unfoldable pub placed : Movement → Movement → Movement
 placed u v = cond (isStanding u) u v
 
--- 5: the zone with one more movement, where there is a place for it
+-- KIND-5.3: the zone with one more movement, where there is a place for it
 abbrev pub withMovement : Zone → Movement → Zone
 withMovement z v = record {
   work = z .work;
@@ -42,7 +42,8 @@ withMovement z v = record {
 unfoldable pub changed : Movement → ℕ → Movement → Movement
 changed u train v = cond (underTrain u train) v u
 
--- 6 to 9 and 13: the zone with another movement, or none, in the place of the one under this train
+-- KIND-6.6, KIND-7.4, KIND-8.3, KIND-9.3, KIND-13.5: the zone with another movement, or none, in
+-- the place of the one under this train
 abbrev pub changedUnder : Zone → ℕ → Movement → Zone
 changedUnder z train v = record {
   work = z .work;

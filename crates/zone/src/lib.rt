@@ -1,6 +1,6 @@
-// The state of one zone of the works desk: its work, its movement, its recorder, its last accepted time; what they
-// say, and what messages do to them. The rules are in specs/: Work.antt, Movement.antt, Trains.antt (movements by
-// train) and Zone.antt. Every function takes any value, also one that no desk gave.
+// The state of one zone of the works desk, ZONE-1 and ZONE-2 (docs/RULES.md): its work, its movement, its recorder, its
+// last accepted time; what they say, and what messages do to them. The rules are in specs/: Work.antt, Movement.antt,
+// Trains.antt (movements by train) and Zone.antt. Every function takes any value, also one that no desk gave.
 ghost use mathlib.Core.Path.{_≡_};
 ghost use Rattle.zone.specs.Zone.{freshZone, workOf, withWork, atTime, withRecorder, refusedIn, settled};
 
@@ -25,7 +25,7 @@ pub struct Agreement {
     pub manner: u8,
 }
 
-// The work of a zone.
+// The work of a zone (ZONE-1, FORM-6).
 pub enum Work {
     NoWork,
     Asked(Request),
@@ -43,20 +43,20 @@ pub struct Passage {
     pub order: u8,
 }
 
-// The movement of a zone.
+// The movement of a zone (ZONE-1, FORM-6).
 pub enum Movement {
     NoMovement,
     Standing(Passage),
 }
 
-// Document 01's regimes.
+// The regimes: REGIME-1 to REGIME-3.
 pub enum Regime {
     Held,
     Clear,
     Danger,
 }
 
-// A zone; the recorder is true while it works.
+// A zone; the recorder is true while it works (ZONE-1, FORM-6).
 pub struct Zone {
     pub work: Work,
     pub movement: Movement,
@@ -72,7 +72,7 @@ pub struct Answer {
 }
 
 impl Zone {
-    // A zone with no work and no movement, its recorder working, its time 0.
+    // A zone with no work and no movement, its recorder working, its time 0 (ZONE-2).
     pub fn fresh() -> Zone
         ensures { λ r. ⌜ r ≡ freshZone ⌝ }
     {
@@ -117,7 +117,7 @@ pub fn with_recorder(z: Zone, working: bool, time: u32) -> Zone
     }
 }
 
-// The answer that refuses a message.
+// The answer that refuses a message (CALL-3, HEAR-4).
 pub fn refused_in(z: Zone, code: u8) -> Answer
     ensures { λ r. ⌜ r ≡ refusedIn z code ⌝ }
 {
@@ -128,7 +128,7 @@ pub fn refused_in(z: Zone, code: u8) -> Answer
     }
 }
 
-// The answer of a code: 0 gives the next zone and the minutes, any other the zone as it was.
+// The answer of a code: 0 gives the next zone and the minutes, any other the zone as it was (HEAR-4).
 pub fn settle(z: Zone, code: u8, minutes: u32, next: Zone) -> Answer
     ensures { λ r. ⌜ r ≡ settled z code minutes next ⌝ }
 {

@@ -1,4 +1,5 @@
-// The movement of a zone: what it says, and what messages do to it.
+// The movement of a zone: what it says, and what messages do to it (the effects of KIND-5 to KIND-7 and KIND-13,
+// docs/RULES.md).
 ghost use mathlib.Core.Path.{_≡_};
 ghost use Rattle.zone.specs.Movement.{
   isStanding,
@@ -97,14 +98,14 @@ pub fn key_set(v: Movement) -> u64
     }
 }
 
-// The turnouts that lack nothing: cleared, or with a key.
+// The turnouts that lack nothing: cleared, or with a key (KIND-13.5).
 pub fn lack_nothing(v: Movement) -> u64
     ensures { λ r. ⌜ r ≡ lackNothing v ⌝ }
 {
     sets::join(cleared_set(v), key_set(v))
 }
 
-// The turnouts that let the signals be clear: efficient, or with a key.
+// The turnouts that let the signals be clear: efficient, or with a key (REGIME-2).
 pub fn allow_clear(v: Movement) -> u64
     ensures { λ r. ⌜ r ≡ allowClear v ⌝ }
 {
@@ -138,7 +139,7 @@ pub fn route_number(v: Movement) -> u8
     }
 }
 
-// A movement asked for.
+// A movement asked for (KIND-5.3).
 pub fn movement_for(train: u32, route: u8) -> Movement
     ensures { λ r. ⌜ r ≡ movementFor train route ⌝ }
 {
@@ -162,7 +163,7 @@ fn only_if(test: bool, n: usize) -> u64
     0
 }
 
-// The movement with a clearance for turnout n.
+// The movement with a clearance for turnout n (KIND-6.6).
 pub fn cleared_at(v: Movement, n: u8, efficient: bool) -> Movement
     ensures { λ r. ⌜ r ≡ clearedAt v n efficient ⌝ }
 {
@@ -179,7 +180,7 @@ pub fn cleared_at(v: Movement, n: u8, efficient: bool) -> Movement
     }
 }
 
-// The movement with a key used on turnout n.
+// The movement with a key used on turnout n (KIND-13.5).
 pub fn keyed_at(v: Movement, n: u8) -> Movement
     ensures { λ r. ⌜ r ≡ keyedAt v n ⌝ }
 {
@@ -196,7 +197,7 @@ pub fn keyed_at(v: Movement, n: u8) -> Movement
     }
 }
 
-// The movement with an order.
+// The movement with an order (KIND-7.4).
 pub fn ordered_as(v: Movement, order: u8) -> Movement
     ensures { λ r. ⌜ r ≡ orderedAs v order ⌝ }
 {

@@ -1,5 +1,5 @@
-// The regime of a movement: which turnouts of its route are under agreed work, which of them lack something, and
-// which order that allows.
+// The regime of a movement, REGIME-1 to REGIME-3 (docs/RULES.md): which turnouts of its route are under agreed work,
+// which of them lack something, and which order that allows.
 ghost use mathlib.Core.Path.{_≡_};
 ghost use Rattle.zone.specs.Movement.{workedTurnouts, lackingOn, regimeOn, orderRefused, isHeld, isClear};
 use super::Movement;
@@ -17,14 +17,14 @@ pub fn worked_turnouts(r: Route, w: Work) -> u64
     station::names(r) & agreed_set(w)
 }
 
-// Those of them that have neither a clearance for the movement nor a key.
+// Those of them that have neither a clearance for the movement nor a key (REGIME-1).
 pub fn lacking_clearance(r: Route, w: Work, v: Movement) -> u64
     ensures { λ s. ⌜ s ≡ lackingOn r w v ⌝ }
 {
     sets::minus(worked_turnouts(r, w), lack_nothing(v))
 }
 
-// The regime of the movement on the route.
+// The regime of the movement on the route (REGIME-1 to REGIME-3).
 pub fn regime(r: Route, w: Work, v: Movement) -> Regime
     ensures { λ g. ⌜ g ≡ regimeOn r w v ⌝ }
 {
@@ -58,7 +58,7 @@ fn is_clear(r: Regime) -> bool
     }
 }
 
-// Whether the regime forbids an order, 1 clear or 2 danger.
+// Whether the regime forbids an order, 1 clear or 2 danger (KIND-7.3).
 pub fn order_refused(order: u8, r: Regime) -> bool
     ensures { λ b. ⌜ b ≡ orderRefused order r ⌝ }
 {

@@ -1,4 +1,5 @@
-// The movements of a zone, by train: what they say, and what messages do to them. A zone has one place for a movement.
+// The movements of a zone, by train: what they say, and what messages do to them. A zone has one place for a movement
+// (ZONE-1 of docs/RULES.md).
 ghost use mathlib.Core.Path.{_≡_};
 ghost use Rattle.zone.specs.Trains.{
   movementUnder,
@@ -27,7 +28,7 @@ pub fn movement_under(z: Zone, train: u32) -> Movement
     Movement::NoMovement
 }
 
-// Whether there is no place for one more movement.
+// Whether there is no place for one more movement (KIND-5.1).
 pub fn no_place(z: Zone) -> bool
     ensures { λ r. ⌜ r ≡ noPlace z ⌝ }
 {
@@ -51,7 +52,7 @@ pub fn cleared_standing(z: Zone) -> u64
     cleared_set(v)
 }
 
-// The zone with one more movement, where there is a place for it.
+// The zone with one more movement, where there is a place for it (KIND-5.3).
 pub fn with_movement(z: Zone, v: Movement) -> Zone
     ensures { λ r. ⌜ r ≡ withMovement z v ⌝ }
 {

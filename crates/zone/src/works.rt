@@ -1,4 +1,5 @@
-// The work of a zone: what it says, and what messages do to it.
+// The work of a zone: what it says, and what messages do to it (the effects of KIND-1, KIND-2, KIND-4, KIND-6 and
+// KIND-10, docs/RULES.md).
 ghost use mathlib.Core.Path.{_≡_};
 ghost use Rattle.zone.specs.Work.{
   hasWork,
@@ -114,14 +115,14 @@ pub fn agreed_at(w: Work) -> u32
     }
 }
 
-// Work asked for.
+// Work asked for (KIND-1.3).
 pub fn asked_for(form: u32, manner: u8, set: u64) -> Work
     ensures { λ r. ⌜ r ≡ askedFor form manner set ⌝ }
 {
     Work::Asked(Request { form, manner, set })
 }
 
-// Work agreed to at a time, nothing open yet.
+// Work agreed to at a time, nothing open yet (KIND-2.4).
 pub fn agreed_from(w: Work, time: u32) -> Work
     ensures { λ r. ⌜ r ≡ agreedFrom w time ⌝ }
 {
@@ -150,7 +151,7 @@ fn with_sets(g: Agreement, set: u64, opened: u64) -> Agreement
     }
 }
 
-// The work with more turnouts open.
+// The work with more turnouts open (KIND-4.6).
 pub fn opened_to(w: Work, s: u64) -> Work
     ensures { λ r. ⌜ r ≡ openedTo w s ⌝ }
 {
@@ -161,7 +162,7 @@ pub fn opened_to(w: Work, s: u64) -> Work
     }
 }
 
-// The work with turnouts shut.
+// The work with turnouts shut (KIND-6.6).
 pub fn shut_to(w: Work, s: u64) -> Work
     ensures { λ r. ⌜ r ≡ shutTo w s ⌝ }
 {
@@ -172,7 +173,7 @@ pub fn shut_to(w: Work, s: u64) -> Work
     }
 }
 
-// The work without the turnouts restored.
+// The work without the turnouts restored (KIND-10.6).
 pub fn restored_of(w: Work, s: u64) -> Work
     ensures { λ r. ⌜ r ≡ restoredOf w s ⌝ }
 {

@@ -42,8 +42,8 @@ mod tests {
     /// What a buffer holds before the call.
     const BEFORE: u8 = 0xA5;
 
-    /// "reading them yields that station": K with any single byte changed, in its records, past them and in its counts.
-    /// What is written reads as that station; how many are written was counted by hand.
+    /// WRITE-2: "reading them yields that station". K with any single byte changed, in its records, past them and in
+    /// its counts. What is written reads as that station; how many are written was counted by hand.
     #[test]
     fn reading_yields_the_station() {
         let k = RawStation::from(&sheet::read(&station_k().bytes()).expect("station K reads"));

@@ -5,7 +5,7 @@ use crate::message::Message;
 use crate::set;
 use crate::sheet::{ELECTRIC, HAND, NO_PARTNER};
 
-/// 01, "Station K": "0 and 1 an electric crossover, 2 alone by hand; route 0 runs over {0}, flank {2}, reverse empty".
+/// K-1: "0 and 1 an electric crossover, 2 alone by hand; route 0 runs over {0}, flank {2}, reverse empty".
 pub fn station_k() -> Sheet {
     Sheet::new(1).crossover(0, ELECTRIC).turnout(0, HAND).route(0, &[0], &[2], &[], &[])
 }
@@ -57,7 +57,7 @@ pub fn largest_panel_station() -> Sheet {
     Sheet { zones: 2, turnouts: all.turnouts[..16].to_vec(), routes }
 }
 
-/// 01, "Station K": the eleven records, all zone 0.
+/// K-2: the eleven records, all zone 0.
 pub fn journal_k() -> Vec<Message> {
     vec![
         work_asked(7, 1, &[0, 1]),
@@ -96,7 +96,7 @@ impl Message {
         Message { b: set::of(turnouts), ..self }
     }
 
-    /// A clearance that covers both ends. 02, M-101.
+    /// A clearance that covers both ends. FIT-4.
     pub fn both_ends(self) -> Message {
         self.d(5, 1)
     }

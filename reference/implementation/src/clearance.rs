@@ -1,5 +1,5 @@
-//! Clearances of turnouts for a train: what fits (20), by which channel (21). 01: "Clearances fit (20) when ..";
-//! 02, M-101: both ends of a crossover.
+//! Clearances of turnouts for a train: what fits (20, KIND-6.4), by which channel (21, KIND-6.5). FIT-1, FIT-2, FIT-3:
+//! "Clearances fit (20) when .."; FIT-4: both ends of a crossover.
 
 use crate::set::holds;
 use crate::station::{Drive, Route};
@@ -31,13 +31,13 @@ pub struct Clearance {
     pub position: Position,
     pub clamp: Clamp,
     pub channel: Channel,
-    /// 02, M-101: "1 says the declaration covers both ends".
+    /// FIT-4: "1 says the declaration covers both ends".
     pub covers_both_ends: bool,
 }
 
 impl Clearance {
-    /// 01: "Clearances fit (20) when d2 is the route's position, d1 fits the drive .. and so does d3."
-    /// 02, M-101: "A clearance breaking this gets 20".
+    /// FIT-1, FIT-2, FIT-3: "Clearances fit (20) when d2 is the route's position, d1 fits the drive .. and so does d3."
+    /// FIT-4: "A clearance breaking this gets 20".
     pub fn fits(&self, route: &Route, drive: Drive, has_partner: bool) -> bool {
         self.position == route.position(self.turnout)
             && self.fits_drive(drive)
@@ -45,7 +45,7 @@ impl Clearance {
             && self.ends_fit(has_partner)
     }
 
-    /// 01: "1, 2 either; 3-6 electric; 7-9 hand; Annex C".
+    /// FIT-2: "1, 2 either; 3-6 electric; 7-9 hand; Annex C".
     pub fn fits_drive(&self, drive: Drive) -> bool {
         match self.declaration {
             1 | 2 => true,
@@ -54,7 +54,7 @@ impl Clearance {
         }
     }
 
-    /// 01: "For 4, 6, 9: 1 if run over, else 0. For 8: 1 or 2 if run over, else 0 .. Others: 0."
+    /// FIT-3: "For 4, 6, 9: 1 if run over, else 0. For 8: 1 or 2 if run over, else 0 .. Others: 0."
     pub fn clamp_fits(&self, run_over: bool) -> bool {
         match (self.declaration, run_over) {
             (4 | 6 | 9, true) => self.clamp == Clamp::Clamp,
@@ -63,17 +63,17 @@ impl Clearance {
         }
     }
 
-    /// 02, M-101: "Declarations 1 and 2 on a turnout with a partner need d5 = 1. In every other clearance d5 is 0."
+    /// FIT-4: "Declarations 1 and 2 on a turnout with a partner need d5 = 1. In every other clearance d5 is 0."
     pub fn ends_fit(&self, has_partner: bool) -> bool {
         self.covers_both_ends == (has_partner && self.all_efficient())
     }
 
-    /// 01: "Declarations 1 and 2 mean all efficient".
+    /// FIT-5: "Declarations 1 and 2 mean all efficient".
     pub fn all_efficient(&self) -> bool {
         self.declaration <= 2
     }
 
-    /// 01: "Check 21: voice needs a working recorder, written one that is out (3.26)."
+    /// KIND-6.5: "Check 21: voice needs a working recorder, written one that is out (3.26)."
     pub fn channel_fits(&self, recorder_working: bool) -> bool {
         match self.channel {
             Channel::Voice => recorder_working,

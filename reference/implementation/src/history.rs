@@ -1,5 +1,5 @@
-//! The definitions of 01, "History, for demand 3", as plain searches over the accepted messages of one zone; keys are
-//! those of 02, M-105.
+//! The definitions of the history, for demand 3 (DEMAND-3): HIST-2 to HIST-8, as plain searches over the accepted
+//! messages of one zone (HIST-1).
 
 use crate::message::Message;
 use crate::set::{holds, members, only, Set};
@@ -18,7 +18,7 @@ impl<'m> History<'m> {
         self.0.iter().rposition(|message| message.kind == kind)
     }
 
-    /// Where the 2 stands by which the turnout is under agreed work. 01: "the last kind 1 names the turnout,
+    /// Where the 2 stands by which the turnout is under agreed work. HIST-2: "the last kind 1 names the turnout,
     /// a 2 follows it, and after it no 10 naming the turnout and no 11".
     fn agreement(&self, turnout: u8) -> Option<usize> {
         let asked = self.last_of(1)?;
@@ -38,7 +38,7 @@ impl<'m> History<'m> {
         self.agreement(turnout).is_some()
     }
 
-    /// Where the standing 5 is. 01: "Standing: the last 5 has no 8 or 9 after it."
+    /// Where the standing 5 is. HIST-3: "Standing: the last 5 has no 8 or 9 after it."
     fn standing_at(&self) -> Option<usize> {
         let asked = self.last_of(5)?;
         let ended = self.after(asked).iter().any(|message| matches!(message.kind, 8 | 9));
@@ -49,12 +49,12 @@ impl<'m> History<'m> {
         self.standing_at().map(|index| &self.0[index])
     }
 
-    /// 01: "Cleared: in a standing movement, a 6 naming the turnout after that 5."
+    /// HIST-4: "Cleared: in a standing movement, a 6 naming the turnout after that 5."
     pub fn cleared(&self, turnout: u8) -> bool {
         self.standing_at().is_some_and(|asked| self.after(asked).iter().any(|message| clears(message, turnout)))
     }
 
-    /// 01: "Open to work: under agreed work, with a 4 naming it in a or b after that 2
+    /// HIST-5: "Open to work: under agreed work, with a 4 naming it in a or b after that 2
     /// and no 6 naming it after that 4."
     pub fn open_to_work(&self, turnout: u8) -> bool {
         let Some(agreed) = self.agreement(turnout) else {
@@ -67,14 +67,14 @@ impl<'m> History<'m> {
         })
     }
 
-    /// 01: "Of its route: named by the route in that 5's d0."
+    /// HIST-6: "Of its route: named by the route in that 5's d0."
     pub fn route<'s>(&self, station: &'s Station) -> Option<&'s Route> {
         station.routes.get(usize::from(self.standing()?.d[0]))
     }
 
-    /// 01: "Clearance for that train, in the route's position, all efficient: after that 5 a 6 naming the turnout,
-    /// with the same id, d2 1 if in the route's reverse and else 0, declaration 1 or 2." 02, M-101: "'All efficient' in
-    /// the history of a movement then also needs d5 = 1 on a turnout with a partner."
+    /// HIST-7: "Clearance for that train, in the route's position, all efficient: after that 5 a 6 naming the turnout,
+    /// with the same id, d2 1 if in the route's reverse and else 0, declaration 1 or 2." "'All efficient' in the
+    /// history of a movement then also needs d5 = 1 on a turnout with a partner."
     pub fn good_clearance(&self, station: &Station, turnout: u8) -> bool {
         let (Some(asked), Some(route)) = (self.standing_at(), self.route(station)) else {
             return false;
@@ -90,7 +90,7 @@ impl<'m> History<'m> {
         })
     }
 
-    /// 02, M-105, a key for that train: after that 5 a 13 naming the turnout, with the same id.
+    /// HIST-8, a key for that train: after that 5 a 13 naming the turnout, with the same id.
     pub fn key(&self, turnout: u8) -> bool {
         self.standing_at().is_some_and(|asked| {
             let mut later = self.after(asked).iter();
@@ -98,7 +98,7 @@ impl<'m> History<'m> {
         })
     }
 
-    /// Has the turnout its efficient clearance or its key? 02, M-105.
+    /// Has the turnout its efficient clearance or its key? HIST-11.
     pub fn released(&self, station: &Station, turnout: u8) -> bool {
         self.good_clearance(station, turnout) || self.key(turnout)
     }
@@ -111,7 +111,7 @@ impl<'m> History<'m> {
     }
 }
 
-/// 01: "a 6 [names] its d0".
+/// HIST-1: "a 6 [names] its d0".
 fn clears(message: &Message, turnout: u8) -> bool {
     message.kind == 6 && message.d[0] == turnout
 }

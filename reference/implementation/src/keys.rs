@@ -1,4 +1,4 @@
-//! The dispatcher's release keys, Tcl and Es: which may be used where (23). 02, M-105.
+//! The dispatcher's release keys, Tcl and Es: which may be used where (23). KIND-13.4.
 
 use crate::set::holds;
 use crate::station::Route;
@@ -10,7 +10,7 @@ pub enum Key {
 }
 
 impl Key {
-    /// 02, M-105: "d1 is 1 for Tcl and 2 for Es".
+    /// RECORD-3: "d1 is 1 for Tcl and 2 for Es".
     pub fn of(number: u8) -> Option<Key> {
         match number {
             1 => Some(Key::Tcl),
@@ -19,7 +19,7 @@ impl Key {
         }
     }
 
-    /// 02, M-105: 23 "unless the turnout is flank, or is in the exit zone and the key is Es".
+    /// KIND-13.4: 23 "unless the turnout is flank, or is in the exit zone and the key is Es".
     pub fn may_release(self, route: &Route, turnout: u8) -> bool {
         holds(route.flank, turnout) || holds(route.exit_zone, turnout) && self == Key::Es
     }

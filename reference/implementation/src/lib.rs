@@ -1,4 +1,4 @@
-//! The turnout works desk, written a second time from documents 01 and 02 alone.
+//! The turnout works desk, written a second time, from the documents that docs/RULES.md restates.
 //! Used to test the proved library: by stored cases (`vectors`) and side by side (`differential`); the workbench stands
 //! on it.
 

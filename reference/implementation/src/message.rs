@@ -1,4 +1,4 @@
-//! The message record of 32 bytes: its fields, reading, writing. 01: "Message record, 32 bytes".
+//! The message record of 32 bytes: its fields, reading, writing. RECORD-1: "Message record, 32 bytes".
 
 use crate::clearance::{Channel, Clamp, Clearance, Position};
 use crate::keys::Key;
@@ -30,7 +30,7 @@ pub enum Form {
 }
 
 impl Form {
-    /// 01, kind 1: "d0 1 form M.45, 2 recorded verbal".
+    /// RECORD-3, kind 1: "d0 1 form M.45, 2 recorded verbal".
     pub fn of(number: u8) -> Form {
         match number {
             1 => Form::M45,
@@ -73,7 +73,7 @@ pub enum Content {
 }
 
 impl Message {
-    /// 01: "Kind (1 byte), zone (1), time in seconds (4), id (4), sets a and b (8 each), details d0 to d5".
+    /// RECORD-1: "Kind (1 byte), zone (1), time in seconds (4), id (4), sets a and b (8 each), details d0 to d5".
     /// Takes the fields without any check.
     pub fn from_bytes(record: &[u8; RECORD]) -> Message {
         let number = |from: usize, to: usize| -> u64 {
@@ -111,13 +111,13 @@ impl Message {
         self.fields().ok_or(Refusal::Field)
     }
 
-    /// 01: "Id is a form number (kinds 1-4, 10, 11) or a train (5-9), not 0; for 12 it is 0." 02, M-105, kind 13:
-    /// "id is the train".
+    /// RECORD-2: "Id is a form number (kinds 1-4, 10, 11) or a train (5-9), not 0; for 12 it is 0." Kind 13: "id is the
+    /// train".
     fn id_fits(&self) -> bool {
         (self.id == 0) == (self.kind == RECORDER)
     }
 
-    /// 01, table of kinds, column "Fields"; "Fields not named below are 0."
+    /// RECORD-3, the table of kinds; "Fields not named below are 0."
     fn fields(&self) -> Option<Content> {
         Some(match (self.kind, self.a, self.b, self.d) {
             (1, turnouts, 0, [1, 0, 0, 0, 0, 0]) => Content::WorkAsked { turnouts, form: Form::M45 },
@@ -143,7 +143,7 @@ impl Message {
                     2 => Channel::Written,
                     _ => return None,
                 };
-                // 02, M-101: "In a clearance d5 becomes a field of 0 or 1"; "a d5 above 1 gets 13".
+                // RECORD-3: "In a clearance d5 becomes a field of 0 or 1"; FIT-4: "a d5 above 1 gets 13".
                 let covers_both_ends = match d5 {
                     0 => false,
                     1 => true,
@@ -159,14 +159,14 @@ impl Message {
             (11, 0, 0, [0, 0, 0, 0, 0, 0]) => Content::AllRestored,
             (RECORDER, 0, 0, [0, 0, 0, 0, 0, 0]) => Content::Recorder { working: false },
             (RECORDER, 0, 0, [1, 0, 0, 0, 0, 0]) => Content::Recorder { working: true },
-            // 02, M-105: "d0 the turnout (0 to 63), d1 is 1 for Tcl and 2 for Es".
+            // RECORD-3: "d0 the turnout (0 to 63), d1 is 1 for Tcl and 2 for Es".
             (13, 0, 0, [turnout @ 0..=63, d1, 0, 0, 0, 0]) => Content::KeyUsed { turnout, key: Key::of(d1)? },
             _ => return None,
         })
     }
 }
 
-/// 01: "A record is first read into a message, or refused (10, 11, 13, in that order)".
+/// RECORD-4, HEAR-1: "A record is first read into a message, or refused (10, 11, 13, in that order)".
 pub fn read(record: &[u8]) -> Result<Message, Refusal> {
     let record: &[u8; RECORD] = record.try_into().map_err(|_| Refusal::RecordLength)?;
     let message = Message::from_bytes(record);
@@ -174,7 +174,7 @@ pub fn read(record: &[u8]) -> Result<Message, Refusal> {
     Ok(message)
 }
 
-/// 01: "writing it is refused by 13, a buffer that is not 32 bytes by 10"; 10 comes first.
+/// RECORD-5: "writing it is refused by 13, a buffer that is not 32 bytes by 10"; 10 comes first.
 pub fn write(message: &Message, buffer: &mut [u8]) -> Result<(), Refusal> {
     let buffer: &mut [u8; RECORD] = buffer.try_into().map_err(|_| Refusal::RecordLength)?;
     message.content().map_err(|_| Refusal::Field)?;

@@ -1,10 +1,10 @@
-//! Minutes of a duration, as the works register has them. 02, M-103.
+//! Minutes of a duration, as the works register has them. MINUTES-1.
 
 const MINUTE: u32 = 60;
 const HALF: u32 = 30;
 
-/// 02: "The minutes returned with kind 11 go to the nearest whole minute, and an exact half minute goes to the even
-/// one: 30 seconds give 0, 90 give 2, 150 give 2."
+/// MINUTES-1: "The minutes returned with kind 11 go to the nearest whole minute, and an exact half minute goes to the
+/// even one: 30 seconds give 0, 90 give 2, 150 give 2."
 pub fn nearest(seconds: u32) -> u32 {
     let (below, over) = (seconds / MINUTE, seconds % MINUTE);
     let above = below + 1;

@@ -16,7 +16,7 @@ pub struct Train<'s> {
     pub cleared: Set,
     /// Of those cleared, the ones declared all efficient.
     pub efficient: Set,
-    /// Those with a key. 02, M-105.
+    /// Those with a key. KIND-13.5.
     pub keys: Set,
 }
 
@@ -30,9 +30,9 @@ impl Train<'_> {
         self.cleared | self.keys
     }
 
-    /// 01: "of the route's turnouts under agreed work, held if one lacks a clearance, else clear if all carry 1 or 2,
-    /// else danger". 02, M-105: "A turnout with a key counts as lacking nothing"; clear where each has "either its
-    /// efficient clearance or its key".
+    /// REGIME-1, REGIME-2, REGIME-3: "of the route's turnouts under agreed work, held if one lacks a clearance, else
+    /// clear if all carry 1 or 2, else danger". KIND-13.5: "A turnout with a key counts as lacking nothing"; REGIME-2:
+    /// clear where each has "either its efficient clearance or its key".
     pub fn standing(&self, agreed: Set) -> Standing {
         let worked = self.route.named() & agreed;
         let lacking = worked & !self.settled();
@@ -54,7 +54,7 @@ pub enum Movement<'s> {
 }
 
 impl<'s> Movement<'s> {
-    /// 01, 15: "no work or movement under this id".
+    /// KIND-6.1, KIND-7.1, KIND-8.1, KIND-9.1, KIND-13.1, ASK-2, 15: "no work or movement under this id".
     pub fn under(&self, id: u32) -> Result<Train<'s>, Refusal> {
         match self {
             Movement::Standing(train) if train.id == id => Ok(*train),

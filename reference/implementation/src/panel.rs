@@ -1,10 +1,10 @@
-//! Reading of the station sheet for the cabin panel. 02, M-102: "A small panel for local cabins uses the same sheets".
+//! Reading of the station sheet for the cabin panel. PANEL-1: "A small panel for local cabins uses the same sheets".
 
 use crate::sheet::{self, Limits, SheetFault};
 use crate::station::Station;
 use crate::writer::RawStation;
 
-/// 02: "it has lamps for 16 turnouts and 8 routes only".
+/// PANEL-1: "it has lamps for 16 turnouts and 8 routes only".
 pub const LIMITS: Limits = Limits { turnouts: 16, routes: 8 };
 
 /// The panel's reading: the desk's, and 9 where the sheet has more turnouts or routes than the panel has lamps for.
@@ -12,7 +12,7 @@ pub fn read(sheet: &[u8]) -> Result<Station, SheetFault> {
     sheet::read_within(sheet, LIMITS)
 }
 
-/// The station that the panel's reading leaves. 02, of a refused sheet: "the station is the empty one".
+/// The station that the panel's reading leaves. PANEL-2, SHEET-12, of a refused sheet: "the station is the empty one".
 pub fn station(sheet: &[u8]) -> RawStation {
     read(sheet).map_or_else(|_| RawStation::empty(), |station| RawStation::from(&station))
 }

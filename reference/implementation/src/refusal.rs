@@ -1,5 +1,6 @@
-//! The refusals of the desk, the journal and the verdicts. 01: "Numbers the desk returns". 7 and 8 are the writer's
-//! (02, M-100), 23 is that of keys (02, M-105). Those of reading a sheet carry a record index and stand in `sheet`.
+//! The refusals of the desk, the journal and the verdicts: "Numbers the desk returns", in docs/RULES.md "All numbers".
+//! 7 and 8 are the writer's (WRITE-3, WRITE-4), 23 is that of keys (KIND-13.4). Those of reading a sheet carry a record
+//! index and stand in `sheet`.
 
 #[derive(Clone, Copy, Debug, PartialEq, Eq)]
 pub enum Refusal {

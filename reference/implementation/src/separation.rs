@@ -1,6 +1,6 @@
-//! Separation of zones (02, M-106): which zone an input belongs to, and what a list gives a zone. "Two lists .. alike
-//! in the messages of one zone and their order and differing in the others at will, give that zone the same codes,
-//! minutes and question answers."
+//! Separation of zones: which zone an input belongs to (APART-1), and what a list gives a zone. APART-2: "Two lists ..
+//! alike in the messages of one zone and their order and differing in the others at will, give that zone the same
+//! codes, minutes and question answers."
 
 use crate::desk::Desk;
 use crate::message::{self, Message};
@@ -19,8 +19,8 @@ pub struct Place {
 /// Code and minutes.
 pub type Numbers = (u8, u32);
 
-/// The zone that an input belongs to: it reads, and its zone byte is below Z. "Records refused with 10, 11, 12 or 13
-/// belong to no zone": no desk is needed to tell.
+/// The zone that an input belongs to: it reads, and its zone byte is below Z. APART-1: "Records refused with 10, 11, 12
+/// or 13 belong to no zone": no desk is needed to tell.
 pub fn zone_of(record: &[u8], zones: u8) -> Option<u8> {
     let message = message::read(record).ok()?;
     Some(message.zone).filter(|&zone| zone < zones)
@@ -42,7 +42,7 @@ pub fn messages<R: AsRef<[u8]>>(list: &[R], place: Place) -> Vec<Message> {
     kept(list, place).into_iter().filter_map(|record| message::read(record).ok()).collect()
 }
 
-/// "Alike in the messages of one zone and their order".
+/// APART-2: "Alike in the messages of one zone and their order".
 pub fn alike<R: AsRef<[u8]>, S: AsRef<[u8]>>(one: &[R], other: &[S], place: Place) -> bool {
     messages(one, place) == messages(other, place)
 }

@@ -1,4 +1,4 @@
-//! Sets of turnouts. 01: "A set is a 64-bit word; bit n (value 2^n) is turnout n."
+//! Sets of turnouts. SET-2: "A set is a 64-bit word; bit n (value 2^n) is turnout n."
 
 pub type Set = u64;
 

@@ -1,4 +1,4 @@
-//! Reading of the station sheet. 01: "Station sheet". The cabin panel reads it with limits of its own (`panel`).
+//! Reading of the station sheet, SHEET-1 to SHEET-11. The cabin panel reads it with limits of its own (`panel`).
 
 use crate::set::{holds, members, Set};
 use crate::station::{Drive, Route, Station, Turnout};
@@ -17,7 +17,7 @@ pub struct Limits {
     pub routes: u8,
 }
 
-/// 02, M-102: "the desk keeps 64 and 64", the most that a sheet has.
+/// PANEL-1: "the desk keeps 64 and 64", the most that a sheet has.
 const DESK: Limits = Limits { turnouts: 64, routes: 64 };
 
 /// Why a sheet is refused; a bad record comes with its index.
@@ -27,7 +27,7 @@ pub enum SheetFault {
     Mark,
     Version,
     Counts,
-    /// 02, M-102: more turnouts or routes than the reader takes.
+    /// PANEL-2: more turnouts or routes than the reader takes.
     Limits,
     Turnout(u8),
     Route(u8),
@@ -46,7 +46,7 @@ impl SheetFault {
         }
     }
 
-    /// 01: "with record index from 0 (else 0)".
+    /// SHEET-11: "with record index from 0 (else 0)".
     pub fn index(self) -> u8 {
         match self {
             SheetFault::Turnout(n) | SheetFault::Route(n) => n,
@@ -60,8 +60,8 @@ pub fn read(sheet: &[u8]) -> Result<Station, SheetFault> {
     read_within(sheet, DESK)
 }
 
-/// 01: "Order: under 8 bytes, mark, version, counts (zone byte included), length, turnouts, routes;
-/// the first bad record ends the reading." 02, M-102: 9 "after the counts are found in range and before the length".
+/// SHEET-11: "Order: under 8 bytes, mark, version, counts (zone byte included), length, turnouts, routes;
+/// the first bad record ends the reading." PANEL-2: 9 "after the counts are found in range and before the length".
 pub(crate) fn read_within(sheet: &[u8], limits: Limits) -> Result<Station, SheetFault> {
     let Some((header, records)) = sheet.split_first_chunk::<HEADER>() else {
         return Err(SheetFault::Length);
@@ -122,7 +122,7 @@ fn read_turnout(records: &[u8], n: u8, zones: u8) -> Option<Turnout> {
     Some(Turnout { zone, partner, drive })
 }
 
-/// 01: "A partner is below P, not itself, names it back, and has the same zone and drive."
+/// SHEET-3: "A partner is below P, not itself, names it back, and has the same zone and drive."
 fn partner_fits(records: &[u8], n: u8, partner: u8) -> bool {
     let (Some(own), Some(other)) = (record_of(records, n), record_of(records, partner)) else {
         return false;
@@ -134,7 +134,7 @@ fn partner_fits(records: &[u8], n: u8, partner: u8) -> bool {
     not_itself && names_back && same_zone && same_drive
 }
 
-/// 01: "Then R routes of 33 bytes: zone, then the sets run over, flank, exit zone, reverse."
+/// SHEET-4: "Then R routes of 33 bytes: zone, then the sets run over, flank, exit zone, reverse."
 pub fn route_fields(record: &[u8]) -> Route {
     let set =
         |start: usize| -> Set { record[start..start + 8].iter().fold(0, |set, &byte| set << 8 | Set::from(byte)) };
@@ -150,29 +150,29 @@ fn route_fits(route: &Route, station: &Station) -> bool {
         && same_position(route, station)
 }
 
-/// 01: "The first three are pairwise disjoint".
+/// SHEET-5: "The first three are pairwise disjoint".
 pub fn pairwise_disjoint(route: &Route) -> bool {
     let run_over_apart = route.run_over & (route.flank | route.exit_zone) == 0;
     let flank_apart = route.flank & route.exit_zone == 0;
     run_over_apart && flank_apart
 }
 
-/// 01: "It lies among the P turnouts, in the route's zone".
+/// SHEET-6: "It lies among the P turnouts, in the route's zone".
 fn lies_in_zone(route: &Route, station: &Station) -> bool {
     members(route.named()).all(|n| station.turnout(n).is_some_and(|turnout| turnout.zone == route.zone))
 }
 
-/// 01: "reverse lies within the union".
+/// SHEET-7: "reverse lies within the union".
 pub fn reverse_within_union(route: &Route) -> bool {
     route.reverse & !route.named() == 0
 }
 
-/// 01: "A flank turnout's partner is flank too (Art. 3.24)."
+/// SHEET-8: "A flank turnout's partner is flank too (Art. 3.24)."
 pub fn flank_with_partner(route: &Route, station: &Station) -> bool {
     !station.splits_crossover(route.flank)
 }
 
-/// 01: "Both ends of a crossover, if named, have the same position."
+/// SHEET-9: "Both ends of a crossover, if named, have the same position."
 pub fn same_position(route: &Route, station: &Station) -> bool {
     (0u8..).zip(&station.turnouts).all(|(n, turnout)| match turnout.partner {
         Some(partner) if holds(route.named(), n) && holds(route.named(), partner) => {

@@ -1,4 +1,4 @@
-//! Verdicts for works on signals, from the rule itself. 01: "Works on signals (Art. 3.5, 3.6, 3.13)".
+//! Verdicts for works on signals (Art. 3.5, 3.6, 3.13), SIGNAL-1 to SIGNAL-9, from the rule itself.
 
 use crate::refusal::{refuse, Refusal};
 
@@ -30,7 +30,7 @@ struct Flags {
 }
 
 impl Flags {
-    /// 01: "Flags: 1 can be held at danger, 2 day, 4 SSC fitted, 8 its danger message ensured,
+    /// SIGNAL-1: "Flags: 1 can be held at danger, 2 day, 4 SSC fitted, 8 its danger message ensured,
     /// 16 auxiliary lights touched, 32 those cannot light wrongly."
     fn of(byte: u8) -> Flags {
         let flag = |value: u8| byte & value != 0;
@@ -45,14 +45,15 @@ impl Flags {
     }
 }
 
-/// 01, 33: "line, signal or flags (above 63) out of range".
+/// SIGNAL-2, 33: "line, signal or flags (above 63) out of range".
 pub fn verdict(line: u8, signal: u8, flags: u8) -> Result<Verdict, Refusal> {
     let in_range = (1..=3).contains(&line) && signal <= 5 && flags <= 63;
     refuse(!in_range, Refusal::Range)?;
     Ok(rule(line, signal, &Flags::of(flags)))
 }
 
-/// 01: "Line 1 signal 5: 6. Else lights touched and (line 3, or not flag 32): 5. Else held: 1. Else line 3: 5. .."
+/// SIGNAL-4, SIGNAL-5, SIGNAL-6, SIGNAL-7, SIGNAL-8, SIGNAL-9: "Line 1 signal 5: 6. Else lights touched and (line 3, or
+/// not flag 32): 5. Else held: 1. Else line 3: 5. .."
 fn rule(line: u8, signal: u8, flags: &Flags) -> Verdict {
     if line == 1 && signal == 5 {
         return Verdict::NoSuchSignal;
@@ -71,12 +72,12 @@ fn rule(line: u8, signal: u8, flags: &Flags) -> Verdict {
     }
 }
 
-/// 01: "by day, with SSC absent or ensured, dark".
+/// SIGNAL-8: "by day, with SSC absent or ensured, dark".
 fn dark_allowed(flags: &Flags) -> bool {
     flags.day && (!flags.ssc || flags.ensured)
 }
 
-/// 01: "3 on line 1 for signals 0, 1, 4, otherwise 2".
+/// SIGNAL-8: "3 on line 1 for signals 0, 1, 4, otherwise 2".
 fn dark(line: u8, signal: u8) -> Verdict {
     match (line, signal) {
         (1, 0 | 1 | 4) => Verdict::DarkBlockOut,

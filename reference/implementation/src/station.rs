@@ -29,7 +29,7 @@ pub struct Route {
 }
 
 impl Route {
-    /// 01: "their union is what the route names".
+    /// SHEET-5: "their union is what the route names".
     pub fn named(&self) -> Set {
         self.run_over | self.flank | self.exit_zone
     }
@@ -61,7 +61,7 @@ impl Station {
         numbered.filter(|(_, turnout)| turnout.zone == zone).fold(0, |set, (n, _)| set | only(n))
     }
 
-    /// 02, M-101: "a turnout with a partner". By the station alone: the turnout is below P, and so is the partner
+    /// FIT-4: "a turnout with a partner". By the station alone, VALUE-2: the turnout is below P, and so is the partner
     /// that it names.
     pub fn has_partner(&self, n: u8) -> bool {
         let partner = self.turnout(n).and_then(|turnout| turnout.partner);

@@ -26,7 +26,7 @@ const LAST_AT: usize = 49;
 const KEYS_AT: usize = 54;
 const RESERVED_AT: usize = 62;
 
-/// 01: "a stored route not below R names nothing".
+/// VALUE-3: "a stored route not below R names nothing".
 static NO_ROUTE: Route = Route { zone: 0, run_over: 0, flank: 0, exit_zone: 0, reverse: 0 };
 static NO_STATION: Station = Station { zones: 0, turnouts: Vec::new(), routes: Vec::new() };
 

@@ -1,5 +1,5 @@
 //! The work of a zone: asked or agreed, on which turnouts, and which of them are open to work.
-//! 01: "Each zone holds its work (none, asked or agreed)".
+//! ZONE-1: "Each zone holds its work (none, asked or agreed)".
 
 use crate::message::Form;
 use crate::refusal::Refusal;
@@ -20,7 +20,7 @@ pub enum Work {
 }
 
 impl Work {
-    /// 01, 15: "no work or movement under this id".
+    /// KIND-2.1, KIND-3.1, KIND-4.1, KIND-10.1, KIND-11.1, 15: "no work or movement under this id".
     pub fn under(&self, id: u32) -> Result<Works, Refusal> {
         match self {
             Work::Asked(works) | Work::Agreed { works, .. } if works.id == id => Ok(*works),

@@ -1,5 +1,5 @@
-//! Writing of the station sheet. 02, M-100: "It turns a station into sheet bytes in a lent buffer, so that reading
-//! them yields that station, and a sheet that was read and written comes out byte for byte."
+//! Writing of the station sheet. WRITE-1, WRITE-2: "It turns a station into sheet bytes in a lent buffer, so that
+//! reading them yields that station, and a sheet that was read and written comes out byte for byte."
 
 use crate::crossover;
 use crate::refusal::{number, Refusal};
@@ -32,7 +32,7 @@ pub struct RawStation {
 }
 
 impl RawStation {
-    /// 01: "empty station, every number 0".
+    /// SHEET-12: "empty station, every number 0".
     pub fn empty() -> RawStation {
         RawStation {
             turnouts: 0,
@@ -43,13 +43,13 @@ impl RawStation {
         }
     }
 
-    /// 01: "The length is exactly 8 + 3P + 33R."
+    /// SHEET-10: "The length is exactly 8 + 3P + 33R."
     pub fn sheet_length(&self) -> usize {
         HEADER + TURNOUT * usize::from(self.turnouts) + ROUTE * usize::from(self.routes)
     }
 
-    /// The turnouts below P that have a partner, each with it. 01: "a count over its limit is read as the limit, a
-    /// partner not below P as none".
+    /// The turnouts below P that have a partner, each with it. VALUE-1, VALUE-2: "a count over its limit is read as the
+    /// limit, a partner not below P as none".
     pub fn pairs(&self) -> impl Iterator<Item = (u8, u8)> + '_ {
         let turnouts = self.turnouts.min(RECORDS as u8);
         let named = (0..turnouts).zip(&self.turnout_records).map(|(n, record)| (n, record.partner));
@@ -63,7 +63,7 @@ impl RawStation {
 }
 
 impl From<&Station> for RawStation {
-    /// 01: "Records past P and R are 0 in the station."
+    /// SHEET-12: "Records past P and R are 0 in the station."
     fn from(station: &Station) -> RawStation {
         let mut raw = RawStation {
             turnouts: station.turnouts.len() as u8,
@@ -81,7 +81,7 @@ impl From<&Station> for RawStation {
     }
 }
 
-/// 01: "partner (the other end of a crossover, or 255 for none); drive (0 electric, 1 hand with key lock)".
+/// SHEET-2: "partner (the other end of a crossover, or 255 for none); drive (0 electric, 1 hand with key lock)".
 fn raw_turnout(turnout: &Turnout) -> RawTurnout {
     let drive = match turnout.drive {
         Drive::Electric => ELECTRIC,
@@ -90,8 +90,9 @@ fn raw_turnout(turnout: &Turnout) -> RawTurnout {
     RawTurnout { zone: turnout.zone, partner: turnout.partner.unwrap_or(NO_PARTNER), drive }
 }
 
-/// 02: "Turned away: 7, a station that, as it stands, no sheet describes; then 8, a buffer shorter than the sheet;
-/// both after nothing else, with the buffer untouched." Accepted: "Bytes past the sheet's length are untouched."
+/// WRITE-3, WRITE-4: "Turned away: 7, a station that, as it stands, no sheet describes; then 8, a buffer shorter than
+/// the sheet; both after nothing else, with the buffer untouched." Accepted, WRITE-1: "Bytes past the sheet's length
+/// are untouched."
 pub fn write(station: &RawStation, buffer: &mut [u8]) -> Result<(), Refusal> {
     let sheet = sheet_of(station).ok_or(Refusal::NoSheet)?;
     let part = buffer.get_mut(..sheet.len()).ok_or(Refusal::ShortBuffer)?;
@@ -109,9 +110,9 @@ fn sheet_of(station: &RawStation) -> Option<Vec<u8>> {
     described.then_some(sheet)
 }
 
-/// 01: "the letters SPT, version (16 bits, 1), counts P of turnouts .., R of routes .., Z of zones .., a byte each.
-/// Then P turnout records of 3 bytes: zone ..; partner ..; drive .. Then R routes of 33 bytes: zone, then the sets
-/// run over, flank, exit zone, reverse." Any counts and any records.
+/// SHEET-1, SHEET-2, SHEET-4: "the letters SPT, version (16 bits, 1), counts P of turnouts .., R of routes .., Z of
+/// zones .., a byte each. Then P turnout records of 3 bytes: zone ..; partner ..; drive .. Then R routes of 33 bytes:
+/// zone, then the sets run over, flank, exit zone, reverse." Any counts and any records.
 pub fn lay_out(counts: [u8; 3], turnouts: &[RawTurnout], routes: &[Route]) -> Vec<u8> {
     let mut sheet = Vec::with_capacity(HEADER + TURNOUT * turnouts.len() + ROUTE * routes.len());
     sheet.extend(b"SPT");
@@ -129,7 +130,7 @@ pub fn lay_out(counts: [u8; 3], turnouts: &[RawTurnout], routes: &[Route]) -> Ve
     sheet
 }
 
-/// 01: "Records past P and R are 0 in the station."
+/// SHEET-12: "Records past P and R are 0 in the station."
 fn zeros_past_counts(station: &RawStation) -> bool {
     let mut past_turnouts = station.turnout_records.iter().skip(usize::from(station.turnouts));
     let mut past_routes = station.route_records.iter().skip(usize::from(station.routes));

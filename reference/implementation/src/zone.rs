@@ -1,5 +1,5 @@
 //! What a zone holds, and the thirteen kinds: checks 15 to 23 in rising number, then the effect.
-//! 01: "Each zone holds its work (none, asked or agreed), one movement, its recorder, its last accepted time."
+//! ZONE-1: "Each zone holds its work (none, asked or agreed), one movement, its recorder, its last accepted time."
 
 use crate::clearance::Clearance;
 use crate::keys::Key;
@@ -20,7 +20,7 @@ pub struct Zone<'s> {
 }
 
 impl<'s> Zone<'s> {
-    /// 01: "A fresh desk has no work and no movement in any zone, recorders working, times 0."
+    /// ZONE-2: "A fresh desk has no work and no movement in any zone, recorders working, times 0."
     pub fn fresh() -> Self {
         Zone { work: Work::None, movement: Movement::None, recorder_working: true, last: 0 }
     }
@@ -49,11 +49,11 @@ impl<'s> Zone<'s> {
             Content::Recorder { working } => self.recorder_working = working,
             Content::KeyUsed { turnout, key } => self.key_used(id, turnout, key)?,
         }
-        // 01: "every other answer has 0".
+        // MINUTES-2: "every other answer has 0".
         Ok(0)
     }
 
-    /// Kind 1: "16 work in zone; 17 a empty, outside the zone or splitting a crossover".
+    /// KIND-1.1, KIND-1.2: "16 work in zone; 17 a empty, outside the zone or splitting a crossover". Then KIND-1.3.
     fn work_asked(&mut self, station: &Station, zone: u8, works: Works) -> Result<(), Refusal> {
         refuse(self.work != Work::None, Refusal::Occupied)?;
         let empty = works.turnouts == 0;
@@ -64,7 +64,7 @@ impl<'s> Zone<'s> {
         Ok(())
     }
 
-    /// Kind 2: "15; 18 agreed already; 19"; "agreed, at this time".
+    /// KIND-2.1, KIND-2.2, KIND-2.3: "15; 18 agreed already; 19". KIND-2.4: "agreed, at this time".
     fn agreed(&mut self, id: u32, time: u32) -> Result<(), Refusal> {
         self.work.under(id)?;
         let Work::Asked(works) = self.work else {
@@ -75,7 +75,7 @@ impl<'s> Zone<'s> {
         Ok(())
     }
 
-    /// Kind 3: "15; 18 agreed"; "no work".
+    /// KIND-3.1, KIND-3.2: "15; 18 agreed". KIND-3.3: "no work".
     fn withdrawn(&mut self, id: u32) -> Result<(), Refusal> {
         self.work.under(id)?;
         refuse(matches!(self.work, Work::Agreed { .. }), Refusal::Stage)?;
@@ -83,8 +83,8 @@ impl<'s> Zone<'s> {
         Ok(())
     }
 
-    /// Kind 4: "15; 17 both empty, overlapping or outside the work; 18 not agreed;
-    /// 19 a cleared turnout in a or b; 22 b not empty under verbal"; "a, b open to work".
+    /// KIND-4.1, KIND-4.2, KIND-4.3, KIND-4.4, KIND-4.5: "15; 17 both empty, overlapping or outside the work; 18 not
+    /// agreed; 19 a cleared turnout in a or b; 22 b not empty under verbal". KIND-4.6: "a, b open to work".
     fn detection_off(&mut self, id: u32, lost: Set, portable: Set) -> Result<(), Refusal> {
         let works = self.work.under(id)?;
         let both_empty = lost | portable == 0;
@@ -100,7 +100,7 @@ impl<'s> Zone<'s> {
         Ok(())
     }
 
-    /// Kind 5: "16 movement in zone; 17 route not below R or of another zone"; "movement asked".
+    /// KIND-5.1, KIND-5.2: "16 movement in zone; 17 route not below R or of another zone". KIND-5.3: "movement asked".
     fn movement_asked(&mut self, station: &'s Station, zone: u8, id: u32, route: u8) -> Result<(), Refusal> {
         refuse(self.movement != Movement::None, Refusal::Occupied)?;
         let number = route;
@@ -110,8 +110,9 @@ impl<'s> Zone<'s> {
         Ok(())
     }
 
-    /// The checks that a clearance and a key share, and the train that has them met: "15; 16 cleared already; 17 not
-    /// under agreed work or not named". 02, M-105: "A second key or a clearance on it gets 16."
+    /// The checks that a clearance and a key share, and the train that has them met. KIND-6.1, KIND-6.2, KIND-6.3 and
+    /// KIND-13.1, KIND-13.2, KIND-13.3: "15; 16 cleared already; 17 not under agreed work or not named"; "A second key
+    /// or a clearance on it gets 16."
     fn unsettled(&self, id: u32, turnout: u8) -> Result<Train<'s>, Refusal> {
         let train = self.movement.under(id)?;
         refuse(holds(train.settled(), turnout), Refusal::Occupied)?;
@@ -121,7 +122,8 @@ impl<'s> Zone<'s> {
         Ok(train)
     }
 
-    /// Kind 6: "15; 16 cleared already; 17 not under agreed work or not named; 20; 21"; "cleared, shut to work".
+    /// KIND-6.1, KIND-6.2, KIND-6.3, KIND-6.4, KIND-6.5: "15; 16 cleared already; 17 not under agreed work or not
+    /// named; 20; 21". KIND-6.6: "cleared, shut to work".
     fn cleared(&mut self, station: &Station, id: u32, clearance: Clearance) -> Result<(), Refusal> {
         let n = clearance.turnout;
         let mut train = self.unsettled(id, n)?;
@@ -137,8 +139,8 @@ impl<'s> Zone<'s> {
         Ok(())
     }
 
-    /// Kind 13. 02, M-105: "checked like a clearance for 15, 16 and 17", then 23. The turnout is not cleared, and open
-    /// to work as it was: "the gang may go on working there".
+    /// KIND-13.1, KIND-13.2, KIND-13.3: "checked like a clearance for 15, 16 and 17", then KIND-13.4, 23. KIND-13.5:
+    /// the turnout is not cleared, and open to work as it was: "the gang may go on working there".
     fn key_used(&mut self, id: u32, turnout: u8, key: Key) -> Result<(), Refusal> {
         let mut train = self.unsettled(id, turnout)?;
         refuse(!key.may_release(train.route, turnout), Refusal::Key)?;
@@ -147,7 +149,8 @@ impl<'s> Zone<'s> {
         Ok(())
     }
 
-    /// Kind 7: "15; 18 ordered already; 22"; "Order 22: clear needs clear; danger needs not held."
+    /// KIND-7.1, KIND-7.2, KIND-7.3: "15; 18 ordered already; 22"; "Order 22: clear needs clear; danger needs not
+    /// held." Then KIND-7.4.
     fn ordered(&mut self, id: u32, aspect: Aspect) -> Result<(), Refusal> {
         let train = self.movement.under(id)?;
         refuse(train.ordered(), Refusal::Stage)?;
@@ -161,7 +164,7 @@ impl<'s> Zone<'s> {
         Ok(())
     }
 
-    /// Kind 8: "15; 18 not ordered"; "no movement or clearance", nor key (02, M-105).
+    /// KIND-8.1, KIND-8.2: "15; 18 not ordered". KIND-8.3: "no movement or clearance", nor key.
     fn passed(&mut self, id: u32) -> Result<(), Refusal> {
         let train = self.movement.under(id)?;
         refuse(!train.ordered(), Refusal::Stage)?;
@@ -169,7 +172,7 @@ impl<'s> Zone<'s> {
         Ok(())
     }
 
-    /// Kind 9: "15; 18 ordered"; "no movement or clearance", nor key (02, M-105).
+    /// KIND-9.1, KIND-9.2: "15; 18 ordered". KIND-9.3: "no movement or clearance", nor key.
     fn cancelled(&mut self, id: u32) -> Result<(), Refusal> {
         let train = self.movement.under(id)?;
         refuse(train.ordered(), Refusal::Stage)?;
@@ -177,8 +180,8 @@ impl<'s> Zone<'s> {
         Ok(())
     }
 
-    /// Kind 10: "15; 17 a empty, not a proper part of the work, or splitting a crossover;
-    /// 18 not agreed; 19; 22 under M.45 (2.13)"; "a leaves the work, shut to work".
+    /// KIND-10.1, KIND-10.2, KIND-10.3, KIND-10.4, KIND-10.5: "15; 17 a empty, not a proper part of the work, or
+    /// splitting a crossover; 18 not agreed; 19; 22 under M.45 (2.13)". KIND-10.6: "a leaves the work, shut to work".
     fn part_restored(&mut self, station: &Station, id: u32, part: Set) -> Result<(), Refusal> {
         let works = self.work.under(id)?;
         let proper_part = part & !works.turnouts == 0 && part != works.turnouts;
@@ -194,8 +197,8 @@ impl<'s> Zone<'s> {
         Ok(())
     }
 
-    /// Kind 11: "15; 18 not agreed; 19"; "no work". Minutes since agreement, to the nearest (02, M-103).
-    /// 01: "an agreement later than the restoration gives 0 minutes".
+    /// KIND-11.1, KIND-11.2, KIND-11.3: "15; 18 not agreed; 19". KIND-11.4: "no work". Minutes since agreement, to the
+    /// nearest (MINUTES-1). VALUE-5: "an agreement later than the restoration gives 0 minutes".
     fn all_restored(&mut self, id: u32, time: u32) -> Result<u32, Refusal> {
         let works = self.work.under(id)?;
         let Work::Agreed { since, .. } = self.work else {

@@ -1,4 +1,4 @@
-//! Release keys (02, M-105): station K's two scenes, a station with an exit zone, the order of checks,
+//! Release keys (KIND-13): station K's two scenes, a station with an exit zone, the order of checks,
 //! on the whole desk. Keys in a unit's bytes stand in `unit`, in the history in `history`.
 
 use reference::builders::*;
@@ -105,7 +105,7 @@ fn scene_2_of_station_k() {
     assert_eq!(code(&k, &scene_2(), cleared(TRAIN, [0, 3, 0, 0, 1])), 0); // the refused key left nothing
 }
 
-/// "unless the turnout is flank, or is in the exit zone and the key is Es".
+/// KIND-13.4: "unless the turnout is flank, or is in the exit zone and the key is Es".
 #[test]
 fn which_key_where() {
     let both = |turnout: u8| [key_used(TRAIN, turnout, TCL), key_used(TRAIN, turnout, ES)];
@@ -152,7 +152,7 @@ fn cleared_and_open() {
     }
 }
 
-/// "Keys lapse when the train passes or the movement is cancelled."
+/// KIND-8.3, KIND-9.3: "Keys lapse when the train passes or the movement is cancelled."
 #[test]
 fn keys_go_with_the_movement() {
     let keyed = with(scene_1(), &[key_used(TRAIN, 2, ES)]);
@@ -170,7 +170,7 @@ fn keys_go_with_the_movement() {
     assert_eq!(codes(&exit_zone_station(), &ordered, [key_used(TRAIN, 4, ES), key_used(TRAIN, 1, ES)]), [16, 17]);
 }
 
-/// "Kinds now run to 13": 11 for 14; 13 for each field.
+/// RECORD-4: "Kinds now run to 13": 11 for 14; 13 for each field.
 #[test]
 fn fields() {
     let good = key_used(TRAIN, 2, TCL);

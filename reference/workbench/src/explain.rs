@@ -99,7 +99,7 @@ fn detail(message: &Message, content: &Content, zone: &Zone) -> Option<String> {
     }
 }
 
-/// 02, M-103: "to the nearest whole minute, and an exact half minute goes to the even one".
+/// MINUTES-1: "to the nearest whole minute, and an exact half minute goes to the even one".
 fn rounding(seconds: u32) -> &'static str {
     if minutes::exact_half(seconds) {
         "an exact half minute, to the even whole minute"

@@ -1,5 +1,5 @@
 //! The thirteen kinds: their names and fields by name. One table for showing a record, for reading its text back
-//! and for saying why a record does not read. 01: "Message record, 32 bytes".
+//! and for saying why a record does not read. RECORD-1, RECORD-2, RECORD-3: "Message record, 32 bytes".
 
 use reference::message::Message;
 

@@ -187,7 +187,7 @@ fn unfit(station: &Station, content: &Content, train: Option<Train>) -> String {
     bad.join("; ")
 }
 
-/// 02, M-101: "Declarations 1 and 2 on a turnout with a partner need d5 = 1. In every other clearance d5 is 0."
+/// FIT-4: "Declarations 1 and 2 on a turnout with a partner need d5 = 1. In every other clearance d5 is 0."
 fn ends(station: &Station, clearance: &Clearance) -> String {
     let (n, declaration) = (clearance.turnout, clearance.declaration);
     if !clearance.covers_both_ends {

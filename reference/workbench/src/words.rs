@@ -1,4 +1,4 @@
-//! Words for sets, values, records, and for the checks and effects of each kind, short as in document 01's tables.
+//! Words for sets, values, records, and for the checks and effects of each kind, KIND-1 to KIND-13, in short.
 
 use reference::clearance::{Channel, Clamp, Clearance, Position};
 use reference::keys::Key;
@@ -88,7 +88,7 @@ pub fn key(key: Key) -> &'static str {
     }
 }
 
-/// 01: "Declarations 1 and 2 mean all efficient; 3, 5, 7 lack detection; 4, 6, 8, 9 lack more."
+/// FIT-5: "Declarations 1 and 2 mean all efficient; 3, 5, 7 lack detection; 4, 6, 8, 9 lack more."
 pub fn declaration(number: u8) -> &'static str {
     match number {
         1 | 2 => "all efficient",
@@ -145,7 +145,7 @@ pub fn recorder(working: bool) -> &'static str {
     }
 }
 
-/// The check that refused a message that reads. 01, "Checks after 14" and "Numbers the desk returns".
+/// The check that refused a message that reads: HEAR-2, HEAR-3, or a check of its kind after 14, KIND-1 to KIND-13.
 pub fn check(content: &Content, refusal: Refusal) -> &'static str {
     use Content::*;
     match (refusal, content) {
@@ -213,7 +213,8 @@ pub fn met(content: &Content) -> &'static str {
     }
 }
 
-/// 01, column "Effect".
+/// What the message does when accepted: KIND-1.3, KIND-2.4, KIND-3.3, KIND-4.6, KIND-5.3, KIND-6.6, KIND-7.4, KIND-8.3,
+/// KIND-9.3, KIND-10.6, KIND-11.4, KIND-12.1, KIND-13.5.
 pub fn effect(content: &Content) -> String {
     match *content {
         Content::WorkAsked { .. } => "work asked".to_string(),

@@ -1,5 +1,5 @@
-//! The test that a set splits no crossover, on stations as they stand. 01: "a count over its limit is read as the
-//! limit, a partner not below P as none".
+//! The test that a set splits no crossover, on stations as they stand. VALUE-1, VALUE-2: "a count over its limit is
+//! read as the limit, a partner not below P as none".
 
 use crate::builders::{largest_station, station_k};
 use crate::set::{of, Set};

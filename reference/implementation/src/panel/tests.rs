@@ -1,5 +1,5 @@
 //! The cabin panel's reading: its limits, their place in the order of checks, and the desk's reading beside it.
-//! 02, M-102.
+//! PANEL-1, PANEL-2, PANEL-3.
 
 use crate::builders::{largest_panel_station, largest_station, plain_station, station_k};
 use crate::drafts::Sheet;
@@ -66,7 +66,7 @@ fn beyond_the_limits() {
     beyond((0, 0), &largest_station().bytes());
 }
 
-/// "before the length".
+/// PANEL-2: "before the length".
 #[test]
 fn before_length_and_records() {
     for sheet in [plain_station(17, 8), plain_station(16, 9), plain_station(17, 9), plain_station(64, 64)] {
@@ -80,7 +80,7 @@ fn before_length_and_records() {
     beyond((6, 8), &with(&plain_station(1, 9), 8 + 3 + 33 * 8, 1));
 }
 
-/// "after the counts are found in range".
+/// PANEL-2: "after the counts are found in range".
 #[test]
 fn after_the_counts() {
     let seventeen = plain_station(17, 9);

@@ -1,4 +1,4 @@
-//! Separation (02, M-106): lists alike in zone 0 give it the same, whatever zone 1 hears; and the comparison finds the
+//! Separation (APART-2): lists alike in zone 0 give it the same, whatever zone 1 hears; and the comparison finds the
 //! desks that mix their zones.
 
 use crate::builders::*;

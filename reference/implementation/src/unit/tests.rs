@@ -1,4 +1,4 @@
-//! The unit: station K record by record over 520 bytes, keys in them (02, M-105), and bytes that are no desk.
+//! The unit: station K record by record over 520 bytes, keys in them (KIND-13), and bytes that are no desk.
 
 use crate::builders::*;
 use crate::desk::Desk;
@@ -76,7 +76,7 @@ fn layout() {
     assert_eq!(unit::encode(&desk), after(8));
 }
 
-/// 02, M-101: d5 is judged, not stored. An accepted clearance leaves its turnout cleared and, for declaration 1,
+/// FIT-4: d5 is judged, not stored. KIND-6.6: an accepted clearance leaves its turnout cleared and, for declaration 1,
 /// efficient; one refused for its d5 leaves the bytes as they were.
 #[test]
 fn both_ends() {
@@ -94,8 +94,8 @@ fn both_ends() {
     assert_eq!(unit::movement_at(&station(), &bytes, 0, 512), [0, 1, 255, 0]);
 }
 
-/// Station K's last record, at 209, on bytes with another time of the agreement. 02, M-103: "to the nearest whole
-/// minute"; 01: "an agreement later than the restoration gives 0 minutes".
+/// Station K's last record, at 209, on bytes with another time of the agreement. MINUTES-1: "to the nearest whole
+/// minute"; VALUE-5: "an agreement later than the restoration gives 0 minutes".
 #[test]
 fn minutes_since_any_agreement() {
     let earlier = [(0, 3), (58, 3), (59, 2), (90, 2), (119, 2), (120, 1), (178, 1), (179, 0), (180, 0), (209, 0)];
@@ -164,7 +164,7 @@ fn worked(sheet: &Sheet, turnouts: &[u8]) -> [u8; DESK] {
     bytes
 }
 
-/// 02, M-105: the keys stand in bytes 54 to 61 of the zone, and nowhere else; they go with the movement.
+/// UNIT-1: the keys stand in bytes 54 to 61 of the zone, and nowhere else; KIND-9.3: they go with the movement.
 #[test]
 fn keys() {
     let sheet = exit_zone_station();

@@ -1,4 +1,5 @@
-//! The writer: station K, the largest station, and stations that no sheet describes. 02, M-100.
+//! The writer: station K, the largest station, and stations that no sheet describes. WRITE-1, WRITE-2,
+//! WRITE-3, WRITE-4, WRITE-5.
 
 use crate::builders::{largest_station, station_k};
 use crate::drafts::Sheet;

@@ -1,4 +1,4 @@
-//! Clearances that cover both ends of station K's crossover. 02, M-101.
+//! Clearances that cover both ends of station K's crossover. FIT-4.
 
 use crate::{last_code, station, verbal_work_on_2, with};
 use reference::builders::*;
@@ -18,7 +18,7 @@ fn alone() -> Vec<Message> {
     with(verbal_work_on_2(), &[movement_asked(512, 0)])
 }
 
-/// 02, M-101: "Declarations 1 and 2 on a turnout with a partner need d5 = 1. In every other clearance d5 is 0."
+/// FIT-4: "Declarations 1 and 2 on a turnout with a partner need d5 = 1. In every other clearance d5 is 0."
 #[test]
 fn both_ends_of_a_crossover() {
     for declaration in 1..=6 {
@@ -36,7 +36,7 @@ fn both_ends_of_a_crossover() {
     }
 }
 
-/// 02, M-101: "a d5 above 1 gets 13"; in every other kind d5 stays 0.
+/// FIT-4: "a d5 above 1 gets 13"; RECORD-3: in every other kind d5 stays 0.
 #[test]
 fn d5_that_no_record_carries() {
     for d5 in 2..=255 {

@@ -1,4 +1,4 @@
-//! The cases of 01, "Station K", and a few more of the words above it, on the whole desk. Here: what they share.
+//! Station K's cases, K-2 to K-9, and a few more of the rules before them, on the whole desk. Here: what they share.
 
 mod both_ends;
 mod cases;

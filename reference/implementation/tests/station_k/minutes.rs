@@ -1,4 +1,4 @@
-//! The minutes of a work on station K, from its agreement to its restoration. 02, M-103.
+//! The minutes of a work on station K, from its agreement to its restoration. MINUTES-1.
 
 use crate::station;
 use reference::builders::*;
@@ -13,7 +13,7 @@ fn minutes_between(agreement: u32, restoration: u32) -> u32 {
     desk.hear(&all_restored(7).at(restoration)).expect("agreed work")
 }
 
-/// 02, M-103: "to the nearest whole minute, and an exact half minute goes to the even one".
+/// MINUTES-1: "to the nearest whole minute, and an exact half minute goes to the even one".
 #[test]
 fn minutes_of_work() {
     let minutes_of = [

@@ -43,7 +43,7 @@ fn explanation_of_station_k() {
     all_say(&parts, &expected);
 }
 
-/// 02, M-103: where the minutes come from, and which way an exact half goes. Works one after another, the last as long
+/// MINUTES-1: where the minutes come from, and which way an exact half goes. Works one after another, the last as long
 /// as station K's.
 #[test]
 fn explanation_of_minutes() {

@@ -3,7 +3,7 @@
 use crate::explain::{all_say, explained};
 use reference::builders::*;
 
-/// 02, M-101: what d5 says, and why it makes a clearance unfit.
+/// FIT-4: what d5 says, and why it makes a clearance unfit.
 #[test]
 fn explanation_of_both_ends() {
     let clearance =
@@ -52,7 +52,7 @@ fn explanation_of_both_ends() {
     all_say(&parts[3..], &expected);
 }
 
-/// 02, M-105: what a key does, why it is refused, and the keys that a zone then holds.
+/// KIND-13: what a key does, why it is refused, and the keys that a zone then holds.
 #[test]
 fn explanation_of_keys() {
     let worked = [0, 1, 2, 3, 4, 5];

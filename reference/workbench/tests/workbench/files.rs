@@ -6,7 +6,7 @@ use reference::drafts::Sheet;
 use reference::sheet::HAND;
 use std::fs;
 
-/// 02, M-100: "a sheet that was read and written comes out byte for byte".
+/// WRITE-2: "a sheet that was read and written comes out byte for byte".
 #[test]
 fn sheets_copied() {
     let folder = Folder::new("copied");
@@ -23,7 +23,7 @@ fn sheets_copied() {
     assert!(!folder.0.join("new").exists());
 }
 
-/// 02, M-102: "Turned away: 9, more than 16 turnouts or 8 routes, .. before the length".
+/// PANEL-2: "Turned away: 9, more than 16 turnouts or 8 routes, .. before the length".
 #[test]
 fn sheets_for_the_panel() {
     let folder = Folder::new("panel");

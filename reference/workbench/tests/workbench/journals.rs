@@ -18,7 +18,7 @@ fn journal_of_station_k() {
     assert!(lines.iter().all(|line| shown.lines().any(|shown| shown == *line)), "{shown}");
 }
 
-/// 02, M-101: a d5 of 1 stands at the line's end, a d5 of 0 has no words, any other does not read.
+/// RECORD-3, RECORD-4: a d5 of 1 stands at the line's end, a d5 of 0 has no words, any other does not read.
 #[test]
 fn journal_with_both_ends() {
     let clearance = cleared(512, [0, 1, 0, 0, 1]).at(115);
@@ -35,7 +35,7 @@ fn journal_with_both_ends() {
     assert!(shown.ends_with("# 1; does not read, 13: d5 is 1, not 0\n"), "{shown}");
 }
 
-/// 02, M-105: a key by its name; any other d1 does not read.
+/// RECORD-3, RECORD-4: a key by its name; any other d1 does not read.
 #[test]
 fn journal_with_keys() {
     let keys = [1, 2, 0, 3].map(|key| key_used(512, 2, key).at(120));

@@ -1,5 +1,5 @@
 //! Comparisons of the test that a set splits no crossover, on stations as they stand, and counts of what occurred.
-//! 02, M-104: "Its result is the same for every set and station."
+//! VALUE-1: "Its result is the same for every set and station."
 
 use crate::compare::{Comparison, Files};
 use crate::crossover_stations::{made, some_set, LAST};
@@ -42,7 +42,7 @@ impl Comparison {
         if station.turnouts <= LIMIT {
             return Ok(());
         }
-        // 01: "a count over its limit is read as the limit". On the library's own answers.
+        // VALUE-1: "a count over its limit is read as the limit". On the library's own answers.
         let limited = trial::values(&RawStation { turnouts: LIMIT, ..station.clone() });
         let as_limit = || format!("{}: a count of {} read as 64", call(), station.turnouts);
         files.same(as_limit, library, library::splits(&limited, set))

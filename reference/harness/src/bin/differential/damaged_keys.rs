@@ -1,4 +1,4 @@
-//! Keys in the bytes of a unit, damaged: how, and counts of what occurred. 02, M-105.
+//! Keys (KIND-13) in the bytes of a unit (UNIT-1, UNIT-2), damaged: how, and counts of what occurred.
 
 use crate::keys::standing;
 use crate::rng::Rng;

@@ -1,5 +1,5 @@
-//! Demand 3 on this implementation's own history: its four sentences, after a list. 'All efficient' is that of
-//! 02, M-101, 'signals clear' that of 02, M-105.
+//! Demand 3 on this implementation's own history: its four sentences, HIST-9, HIST-10, HIST-11 and HIST-12, after a
+//! list. 'All efficient' is that of HIST-7, 'signals clear' that of HIST-11.
 
 use reference::desk::Desk;
 use reference::history::History;

@@ -1,4 +1,4 @@
-//! Counts of what occurred of 02, M-101: d5 of clearances on turnouts with and without a partner.
+//! Counts of what occurred of FIT-4: d5 of clearances on turnouts with and without a partner.
 
 use reference::desk::Desk;
 use reference::message::{Message, RECORD};

@@ -106,7 +106,7 @@ impl Comparison {
         bytes
     }
 
-    /// 01: "Record 1,024 fits, the next: 31."
+    /// K-11: "Record 1,024 fits, the next: 31."
     pub fn full_journal(&mut self) -> Result<(), Difference> {
         let count = self.rng.pick(&[1022, 1023, 1024]);
         let records = vec![recorder(1).to_bytes(); count];

@@ -1,4 +1,4 @@
-//! Release keys (02, M-105): what a key does, on the library's own answers; counts of what occurred: keys by place,
+//! Release keys (KIND-13): what a key does, on the library's own answers; counts of what occurred: keys by place,
 //! their refusals, regimes with them, keys that lapse. Keys in damaged bytes of a unit stand in `damaged_keys`.
 
 use crate::compare::Files;

@@ -1,4 +1,4 @@
-//! The minutes of kind 11: the sentence of 02, M-103 on the library's own answers, and counts of what occurred.
+//! The minutes of kind 11: the sentence of MINUTES-1 on the library's own answers, and counts of what occurred.
 
 use crate::compare::{Comparison, Files};
 use crate::Difference;
@@ -34,8 +34,8 @@ fn seconds(station: &Station, desk: &[u8], record: &[u8]) -> Option<i64> {
     }
 }
 
-/// 02: "to the nearest whole minute, and an exact half minute goes to the even one"; 01: "an agreement later than the
-/// restoration gives 0 minutes". By the distance alone: nothing is divided.
+/// MINUTES-1: "to the nearest whole minute, and an exact half minute goes to the even one"; VALUE-5: "an agreement
+/// later than the restoration gives 0 minutes". By the distance alone: nothing is divided.
 fn is_nearest(seconds: i64, minutes: u64) -> bool {
     let Ok(seconds) = u64::try_from(seconds) else {
         return minutes == 0;

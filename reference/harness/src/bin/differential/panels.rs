@@ -1,5 +1,5 @@
 //! Comparisons of the cabin panel's reading, its sentences on the library's own answers, and counts of what occurred.
-//! 02, M-102.
+//! PANEL-1, PANEL-2, PANEL-3.
 
 use crate::compare::{Comparison, Files};
 use crate::{panel_sheets, Difference};
@@ -56,7 +56,7 @@ impl Comparison {
     }
 }
 
-/// 02: "more than 16 turnouts or 8 routes, .. after the counts are found in range". By the header's bytes alone.
+/// PANEL-2: "more than 16 turnouts or 8 routes, .. after the counts are found in range". By the header's bytes alone.
 fn beyond(bytes: &[u8]) -> bool {
     match *bytes {
         [b'S', b'P', b'T', 0, 1, turnouts @ 1..=64, routes @ 0..=64, 1..=8, ..] => turnouts > 16 || routes > 8,

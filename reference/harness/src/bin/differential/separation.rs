@@ -1,5 +1,5 @@
-//! Separation (02, M-106): two lists alike in the messages of one zone give that zone the same codes, minutes and
-//! question answers; so does the list of its messages alone. Checked on the library's own answers, as a journal and
+//! Separation, APART-2: two lists alike in the messages of one zone give that zone the same codes, minutes and question
+//! answers; APART-3: so does the list of its messages alone. Checked on the library's own answers, as a journal and
 //! record by record over a unit's bytes, and on this implementation's. The lists stand in `separation_lists`, the
 //! counts in `separation_counts`.
 

@@ -1,4 +1,4 @@
-//! Counts of what occurred in pairs of lists alike in one zone (02, M-106): what the lists differ in, and what a desk
+//! Counts of what occurred in pairs of lists alike in one zone (APART-2): what the lists differ in, and what a desk
 //! that mixes its zones would get wrong.
 
 use crate::separation_lists::{List, Pair};

@@ -1,4 +1,4 @@
-//! Pairs of random lists alike in the messages of one zone, on stations of two zones and more. 02, M-106: "differing in
+//! Pairs of random lists alike in the messages of one zone, on stations of two zones and more. APART-2: "differing in
 //! the others at will".
 
 use crate::lists::Talk;

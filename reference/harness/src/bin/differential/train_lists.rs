@@ -73,7 +73,7 @@ impl Place<'_, '_> {
         };
         let position = u8::from(train.route.position(turnout) == Position::Reverse);
         let channel = if self.state.recorder_working { 1 } else { 2 };
-        // 02, M-101: "Declarations 1 and 2 on a turnout with a partner need d5 = 1. In every other clearance d5 is 0."
+        // FIT-4: "Declarations 1 and 2 on a turnout with a partner need d5 = 1. In every other clearance d5 is 0."
         let due = u8::from(declaration <= 2 && self.station.has_partner(turnout));
         let ends = rng.weighted(&[(85, due), (12, 1 - due), (3, 2)]);
         builders::cleared(train.id, [turnout, declaration, position, clamp, channel]).d(5, ends)

@@ -1,4 +1,5 @@
-//! Comparisons of the writer, on stations as they stand, and of sheets copied from one buffer into another. 02, M-100.
+//! Comparisons of the writer, on stations as they stand (WRITE-1, WRITE-2, WRITE-3, WRITE-4), and of sheets
+//! copied from one buffer into another (WRITE-5).
 
 use crate::compare::{Comparison, Files};
 use crate::{raw_stations, Difference};

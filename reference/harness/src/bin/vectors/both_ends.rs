@@ -1,4 +1,4 @@
-//! Cases of d5 in a clearance: whether its declaration covers both ends of a crossover. 02, M-101.
+//! Cases of d5 in a clearance: whether its declaration covers both ends of a crossover. FIT-4.
 
 use crate::cases::Cases;
 use crate::scenes::*;
@@ -32,7 +32,7 @@ pub fn add(cases: &mut Cases) {
     both_named(cases);
 }
 
-/// 02: "Declarations 1 and 2 on a turnout with a partner need d5 = 1."
+/// FIT-4: "Declarations 1 and 2 on a turnout with a partner need d5 = 1."
 fn on_a_crossover(c: &mut Cases, k: &[u8]) {
     c.list(20, k, &then(crossover(), &[of(0, 1, 0)])); // declaration 1, one end
     c.list(0, k, &then(crossover(), &[of(0, 1, 0).both_ends()])); // declaration 1, both
@@ -61,7 +61,7 @@ fn on_a_crossover(c: &mut Cases, k: &[u8]) {
     c.work([0, 1], k, &covered, 1); // the other end is still open: a clearance is judged alone
 }
 
-/// 02: "In every other clearance d5 is 0."
+/// FIT-4: "In every other clearance d5 is 0."
 fn alone_by_hand(c: &mut Cases, k: &[u8]) {
     c.list(20, k, &then(alone(), &[of(2, 1, 0).both_ends()])); // declaration 1, both
     c.list(0, k, &then(alone(), &[of(2, 1, 0)])); // declaration 1
@@ -74,7 +74,7 @@ fn alone_by_hand(c: &mut Cases, k: &[u8]) {
     c.movement([0, HELD, 2, 1], k, &both_ends, 0, TRAIN); // held after the refused one
 }
 
-/// 02: "a d5 above 1 gets 13".
+/// FIT-4: "a d5 above 1 gets 13".
 fn above_1(c: &mut Cases, k: &[u8]) {
     c.list(13, k, &then(crossover(), &[of(0, 1, 0).d(5, 2)])); // on a crossover
     c.list(13, k, &then(alone(), &[of(2, 1, 0).d(5, 2)])); // alone
@@ -130,8 +130,8 @@ fn records(c: &mut Cases) {
     c.journal_add(13, &room, &agreed(FORM).d(5, 1).to_bytes()); // not added, another kind
 }
 
-/// 02: "each turnout still needs its own clearance, judged alone". Both ends of two crossovers named: 0 and 1 run over,
-/// 2 and 3 flank; 4, alone, is the exit zone.
+/// FIT-4: "each turnout still needs its own clearance, judged alone". Both ends of two crossovers named: 0 and 1 run
+/// over, 2 and 3 flank; 4, alone, is the exit zone.
 fn both_named(c: &mut Cases) {
     let sheet = two_zones().bytes();
     let list = work_and_train(M45, &[0, 1, 2, 3, 4], 0);

@@ -1,4 +1,4 @@
-//! Cases of sheets copied: read from one buffer and written into another. 02, M-100.
+//! Cases of sheets copied: read from one buffer and written into another. WRITE-5.
 
 use crate::cases::Cases;
 use crate::sheets::two_zones;

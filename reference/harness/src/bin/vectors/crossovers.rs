@@ -1,5 +1,5 @@
 //! Cases of sets that split a crossover of 64 turnouts or keep it whole, mostly that of turnout 63 or of turnout 0.
-//! 02, M-104: "Its result is the same for every set and station."
+//! VALUE-1: "Its result is the same for every set and station."
 
 use crate::cases::Cases;
 use crate::scenes::*;

@@ -1,4 +1,4 @@
-//! Cases of kind 13, key used, and of 23. 02, M-105: "by Tcl or Es where it is flank, by Es where it is in the exit
+//! Cases of kind 13, key used, and of 23. KIND-13.4: "by Tcl or Es where it is flank, by Es where it is in the exit
 //! zone".
 
 use crate::cases::Cases;
@@ -76,7 +76,7 @@ fn flank(c: &mut Cases, k: &[u8]) {
     c.work([0, 1], k, &keyed, 2); // still open to work
 }
 
-/// "Keys lapse when the train passes or the movement is cancelled."
+/// KIND-8.3, KIND-9.3: "Keys lapse when the train passes or the movement is cancelled."
 fn next_train(c: &mut Cases, k: &[u8]) {
     let keyed = then(open_work(&[2]), &[tcl(2)]);
     let passed = then(keyed.clone(), &[ordered(TRAIN, CLEAR), passed(TRAIN), movement_asked(513, 0)]);

@@ -47,7 +47,7 @@ pub fn add(cases: &mut Cases) {
     // Station K: the journal, and both questions after each prefix.
     let k = station_k().bytes();
     let records = journal_k();
-    c.state_minutes(&[2], &k, &records); // 02, M-103: "the last line becomes '11 0 2'"
+    c.state_minutes(&[2], &k, &records); // K-2: "the last line becomes '11 0 2'"
     c.codes(&[0, 0, 0, 0, 22, 0, 22, 0, 19, 0, 0], &k, &records); // the whole journal
     for n in 0..=records.len() {
         let prefix = journal(&records[..n]);

@@ -1,4 +1,4 @@
-//! Cases of minutes. 02, M-103: "The minutes returned with kind 11 go to the nearest whole minute, and an exact half
+//! Cases of minutes. MINUTES-1: "The minutes returned with kind 11 go to the nearest whole minute, and an exact half
 //! minute goes to the even one: 30 seconds give 0, 90 give 2, 150 give 2."
 
 use crate::cases::Cases;

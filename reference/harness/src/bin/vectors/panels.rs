@@ -1,5 +1,5 @@
 //! Cases of the cabin panel's reading: 16 turnouts and 8 routes at most, 9 after the counts and before the length.
-//! 02, M-102.
+//! PANEL-1, PANEL-2, PANEL-3.
 
 use crate::cases::Cases;
 use crate::sheets::two_zones;
@@ -56,7 +56,7 @@ fn beyond_the_limits(c: &mut Cases) {
     c.panel(9, 0, &largest_station().bytes()); // 64 and 64
 }
 
-/// 02: "before the length"; so before the records too.
+/// PANEL-2: "before the length"; so before the records too.
 fn before_the_length(c: &mut Cases) {
     let seventeen = plain_station(17, 0);
     c.panel(9, 0, &seventeen.bytes()[..58]); // 17, a byte short
@@ -68,7 +68,7 @@ fn before_the_length(c: &mut Cases) {
     c.panel(9, 0, &with(&plain_station(1, 9), route_at(1, 8), &[1])); // 9 routes, route 8 bad
 }
 
-/// 02: "after the counts are found in range".
+/// PANEL-2: "after the counts are found in range".
 fn after_the_counts(c: &mut Cases) {
     let seventeen = plain_station(17, 0);
     c.panel(1, 0, &seventeen.bytes()[..7]); // 7 bytes

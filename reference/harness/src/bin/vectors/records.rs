@@ -36,7 +36,7 @@ pub fn add(cases: &mut Cases) {
             bad.extend([Message { b: 1, ..good }, Message { b: 1 << 63, ..good }]);
         }
         let unnamed = match kind {
-            // Named since M-101, of 02: 0 or 1, and 32 is neither.
+            // Named since M-101, RECORD-3: 0 or 1, and 32 is neither.
             6 => 5..6,
             1 | 5 | 7 | 12 => 1..6,
             _ => 0..6,

@@ -1,4 +1,4 @@
-//! Cases of lists alike in one zone. 02, M-106: "Two lists .. alike in the messages of one zone and their order and
+//! Cases of lists alike in one zone. APART-2: "Two lists .. alike in the messages of one zone and their order and
 //! differing in the others at will, give that zone the same codes, minutes and question answers."
 
 use crate::cases::Cases;

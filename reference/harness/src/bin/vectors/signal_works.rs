@@ -6,7 +6,7 @@ pub fn add(cases: &mut Cases) {
     let c = cases;
     let (held, day, ssc, ensured, touched, safe) = (1, 2, 4, 8, 16, 32);
 
-    // Of document 01, "Station K".
+    // K-10.
     c.verdict(0, 3, [1, 1, day]); // line 1 signal 1
     c.verdict(0, 2, [1, 2, day]); // line 1 signal 2
     c.verdict(0, 5, [2, 1, day]); // line 2 signal 1

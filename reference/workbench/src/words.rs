@@ -3,6 +3,7 @@
 use reference::clearance::{Channel, Clamp, Clearance, Position};
 use reference::keys::Key;
 use reference::message::{Aspect, Content, Form, Message};
+use reference::movement::Regime;
 use reference::refusal::Refusal;
 use reference::set::{members, Set};
 use reference::station::Station;
@@ -78,6 +79,14 @@ pub fn aspect(aspect: Aspect) -> &'static str {
     match aspect {
         Aspect::Clear => "clear",
         Aspect::Danger => "at danger",
+    }
+}
+
+pub fn regime(regime: Regime) -> &'static str {
+    match regime {
+        Regime::Held => "held",
+        Regime::Clear => "clear",
+        Regime::Danger => "danger",
     }
 }
 

@@ -32,13 +32,17 @@ impl Span {
     }
 }
 
-/// The lane of a zone: a pointer's room, the bar of its work, that of its movement, labels, the recorder's line.
+/// The lane of a zone: a pointer's room, the recorder's line, the bar of its work, that of its movement, labels.
 #[derive(Clone, Copy, Debug, PartialEq, Eq)]
 pub struct Lane(pub Span);
 
 impl Lane {
+    pub fn recorder(self) -> Span {
+        Span { x: self.0.x + 9, width: 3 }
+    }
+
     pub fn work(self) -> Span {
-        Span { x: self.0.x + 9, width: BAR }
+        Span { x: self.recorder().end() + 3, width: BAR }
     }
 
     pub fn movement(self) -> Span {
@@ -47,11 +51,7 @@ impl Lane {
 
     pub fn labels(self) -> Span {
         let x = self.movement().end() + 4;
-        Span { x, width: self.recorder().x - 2 - x }
-    }
-
-    pub fn recorder(self) -> Span {
-        Span { x: self.0.end() - 5, width: 3 }
+        Span { x, width: self.0.end() - 4 - x }
     }
 
     /// For labels: smaller in narrow lanes.

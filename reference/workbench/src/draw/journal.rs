@@ -39,7 +39,7 @@ pub fn draw(station: &Station, journal: &[u8]) -> Result<String, Refusal> {
 
 const NOTES: &[&str] = &[
     "From top to bottom, one row for each record: time is written, not to scale. A row shows what the zones hold after \
-     its record; a bar goes on as long as that stands.",
+     its record; a bar goes on as long as that stands. After a colon stands the movement's regime, where it changes.",
 ];
 
 fn rule(svg: &mut Svg, span: Span, y: i32) {
@@ -161,7 +161,8 @@ mod tests {
             assert_eq!(rows[n].iter().any(|words| words.starts_with(&reason)), answer.is_err(), "{:?}", rows[n]);
         }
         assert!(rows[0].contains(&"form 7, {0,1}") && rows[2].contains(&"open {0,1}"), "{rows:?}");
-        assert!(rows[5].contains(&"0, decl. 3") && rows[5].contains(&"open {1}"), "{rows:?}");
+        assert!(rows[3].contains(&"train 512, route 0: held") && rows[7].contains(&"ordered at danger"), "{rows:?}");
+        assert!(rows[5].contains(&"0, decl. 3: danger") && rows[5].contains(&"open {1}"), "{rows:?}");
     }
 
     #[test]
@@ -185,8 +186,8 @@ mod tests {
         ];
         let picture = of(&exit_zone_station(), &messages);
         let labels = [
-            ["form 7, {2,3,4}", "agreed", "open {2,3,4}", "train 9, route 0", "2, key Tcl"],
-            ["3, key Es", "23", "4, decl. 1", "open {2,3}", "ordered clear"],
+            ["form 7, {2,3,4}", "agreed", "open {2,3,4}", "train 9, route 0: held", "2, key Tcl"],
+            ["3, key Es", "23", "4, decl. 1: clear", "open {2,3}", "ordered clear"],
             ["passed", "still {2,3}", "recorder out", "restored", "cancelled"],
         ];
         for label in labels.as_flattened() {

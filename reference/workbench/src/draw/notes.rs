@@ -4,6 +4,7 @@
 use super::rows::Row;
 use crate::{state, words};
 use reference::message::Content;
+use reference::movement::Regime;
 use reference::set::{holds, Set};
 use reference::work::Work;
 use reference::zone::Zone;
@@ -42,6 +43,7 @@ pub fn notes(row: &Row) -> Notes {
         return Notes { mark: Some((bar, Mark::Refused)), labels: vec![refusal.number().to_string()] };
     }
     let (mark, label) = movement(&before, &after, &content);
+    let label = with_regime(label, regime(&before), regime(&after));
     let labels = label.into_iter().chain(work(&before, &after)).collect();
     Notes { mark: mark.map(|mark| (Bar::Movement, mark)), labels }
 }
@@ -82,6 +84,20 @@ fn work(before: &Zone, after: &Zone) -> Vec<String> {
         labels.push(format!("recorder {}", words::recorder(after.recorder_working)));
     }
     labels
+}
+
+/// The regime of the zone's movement.
+fn regime(zone: &Zone) -> Option<Regime> {
+    zone.standing(state::standing(zone)?.id).ok().map(|standing| standing.regime)
+}
+
+/// The label, and the regime where it is another than before.
+fn with_regime(label: Option<String>, before: Option<Regime>, after: Option<Regime>) -> Option<String> {
+    let changed = after.filter(|_| before != after).map(words::regime);
+    match (label, changed) {
+        (Some(label), Some(regime)) => Some(format!("{label}: {regime}")),
+        (label, regime) => label.or(regime.map(str::to_string)),
+    }
 }
 
 /// How the movement changes.

@@ -4,6 +4,7 @@ mod explain;
 mod explain_releases;
 mod files;
 mod journals;
+mod pictures;
 mod random;
 mod sheets;
 
@@ -105,6 +106,10 @@ fn usage() {
         &["copy-sheet", "a", "b", "c"],
         &["check-panel"],
         &["check-panel", "a", "b"],
+        &["draw-sheet", "a"],
+        &["draw-sheet", "a", "b", "c"],
+        &["draw-journal", "a", "b"],
+        &["draw-journal", "a", "b", "c", "d"],
     ];
     for arguments in wrong {
         let output = workbench(arguments);

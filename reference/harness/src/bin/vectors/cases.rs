@@ -3,6 +3,7 @@
 use reference::message::{self, Message, RECORD};
 use reference::refusal::number;
 use reference::{builders, journal, panel, replay, sheet, writer};
+use std::panic::Location;
 
 /// Of 64 turnouts and 64 routes.
 const LONGEST_SHEET: usize = 2_312;
@@ -12,6 +13,8 @@ pub struct Cases {
     pub count: usize,
     pub bytes: Vec<u8>,
     pub stdout: String,
+    /// The number and the source line of each case.
+    pub index: String,
 }
 
 /// 32-bit sum of bytes: s = s * 31 + b.
@@ -24,7 +27,8 @@ fn numbers(bytes: &[u8]) -> Vec<u32> {
 }
 
 impl Cases {
-    /// Puts a case; `code` is the one the source states for it.
+    /// Puts a case; `code` is the one the source states for it. The index names the line that states it.
+    #[track_caller]
     fn put(&mut self, op: u8, [x, y]: [u32; 2], a: &[u8], b: &[u8], code: u8, answer: &[u32]) {
         self.count += 1;
         assert_eq!(answer[0], u32::from(code), "case {}", self.count);
@@ -40,9 +44,12 @@ impl Cases {
         self.bytes.extend(b);
         let words: Vec<String> = answer.iter().map(u32::to_string).collect();
         self.stdout += &format!("{} {}\n", self.count, words.join(" "));
+        let line = Location::caller();
+        self.index += &format!("{} {}:{}\n", self.count, line.file(), line.line());
     }
 
     /// Op 1: a sheet read, with the code and index stated.
+    #[track_caller]
     pub fn sheet(&mut self, code: u8, index: u8, bytes: &[u8]) {
         let read = sheet::read(bytes);
         let answer = read.map_or_else(|fault| [fault.number(), fault.index()], |_| [0, 0]);
@@ -51,6 +58,7 @@ impl Cases {
     }
 
     /// Op 2: a replay that a refused sheet or journal ends.
+    #[track_caller]
     pub fn refused_replay(&mut self, code: u8, sheet: &[u8], journal: &[u8]) {
         let answer = replay::replay(sheet, journal, &mut []);
         assert_ne!(answer, replay::BUFFER_TOO_SMALL);
@@ -58,6 +66,7 @@ impl Cases {
     }
 
     /// Op 2: a replay; `last` is the code stated for the last record, 0 where there is none.
+    #[track_caller]
     pub fn replay(&mut self, last: u8, sheet: &[u8], journal: &[u8]) {
         let station = sheet::read(sheet).expect("a good sheet");
         let (answers, _) = replay::hear_all(&station, journal).expect("a good journal");
@@ -68,6 +77,7 @@ impl Cases {
     }
 
     /// Op 2 for a list of messages: the code stated for each.
+    #[track_caller]
     pub fn codes(&mut self, codes: &[u8], sheet: &[u8], messages: &[Message]) {
         let station = sheet::read(sheet).expect("a good sheet");
         let journal = builders::journal(messages);
@@ -78,6 +88,7 @@ impl Cases {
     }
 
     /// Op 2 for a list of messages: `last` is the code of the last one, all before it are accepted.
+    #[track_caller]
     pub fn list(&mut self, last: u8, sheet: &[u8], messages: &[Message]) {
         let mut codes = vec![0; messages.len()];
         if let Some(code) = codes.last_mut() {
@@ -87,6 +98,7 @@ impl Cases {
     }
 
     /// Op 2 for a list of accepted messages: the minutes stated for each kind 11.
+    #[track_caller]
     pub fn minutes(&mut self, minutes: &[u32], sheet: &[u8], messages: &[Message]) {
         self.state_minutes(minutes, sheet, messages);
         self.list(0, sheet, messages);
@@ -102,6 +114,7 @@ impl Cases {
     }
 
     /// Op 2 for messages refused one after another by the same code, on the desk that an accepted list left.
+    #[track_caller]
     pub fn refused(&mut self, code: u8, sheet: &[u8], accepted: &[Message], refused: &[Message]) {
         let codes = [vec![0; accepted.len()], vec![code; refused.len()]].concat();
         self.codes(&codes, sheet, &[accepted, refused].concat());
@@ -109,6 +122,7 @@ impl Cases {
 
     /// Op 3: the movement question after a journal.
     /// Stated: code, regime, lowest, count.
+    #[track_caller]
     pub fn movement(&mut self, stated: [u8; 4], sheet: &[u8], journal: &[u8], zone: u8, train: u32) {
         let answer = replay::movement(sheet, journal, zone, train);
         assert_eq!(answer, stated, "case {}", self.count + 1);
@@ -117,6 +131,7 @@ impl Cases {
 
     /// Op 4: the work question after a journal.
     /// Stated: code, 1 yes or 0 no.
+    #[track_caller]
     pub fn work(&mut self, stated: [u8; 2], sheet: &[u8], journal: &[u8], turnout: u8) {
         let answer = replay::work(sheet, journal, turnout);
         assert_eq!(answer, stated, "case {}", self.count + 1);
@@ -124,6 +139,7 @@ impl Cases {
     }
 
     /// Op 5: a record read and written again.
+    #[track_caller]
     pub fn record(&mut self, code: u8, record: &[u8]) {
         let read = message::read(record);
         let mut line = vec![u32::from(number(&read))];
@@ -138,6 +154,7 @@ impl Cases {
     }
 
     /// Op 6: a message, good or not, written into a buffer.
+    #[track_caller]
     pub fn write(&mut self, code: u8, message: &Message, buffer: &[u8]) {
         let mut written = buffer.to_vec();
         let answer = number(&message::write(message, &mut written));
@@ -145,12 +162,14 @@ impl Cases {
     }
 
     /// Op 7: a journal checked, its count.
+    #[track_caller]
     pub fn journal(&mut self, code: u8, bytes: &[u8]) {
         let count = journal::check(bytes);
         self.put(7, [0, 0], bytes, &[], code, &[u32::from(number(&count)), count.unwrap_or(0)]);
     }
 
     /// Op 8: record n of a journal.
+    #[track_caller]
     pub fn journal_record(&mut self, code: u8, bytes: &[u8], n: u32) {
         let record = journal::record(bytes, n);
         let part = record.unwrap_or(&[]);
@@ -158,6 +177,7 @@ impl Cases {
     }
 
     /// Op 9: a record added to a journal.
+    #[track_caller]
     pub fn journal_add(&mut self, code: u8, bytes: &[u8], record: &[u8]) {
         let mut lent = bytes.to_vec();
         let answer = number(&journal::add(&mut lent, record));
@@ -165,6 +185,7 @@ impl Cases {
     }
 
     /// Op 10: a verdict; `verdict` is the one stated.
+    #[track_caller]
     pub fn verdict(&mut self, code: u8, verdict: u8, [line, signal, flags]: [u8; 3]) {
         let answer = replay::verdict_numbers(line, signal, flags);
         assert_eq!(answer[1], verdict, "case {}", self.count + 1);
@@ -173,6 +194,7 @@ impl Cases {
     }
 
     /// Op 11: a sheet copied into a buffer, with the code and index stated.
+    #[track_caller]
     pub fn copied(&mut self, code: u8, index: u8, sheet: &[u8], buffer: &[u8]) {
         let mut written = buffer.to_vec();
         let answer = writer::copy_sheet(sheet, &mut written);
@@ -184,6 +206,7 @@ impl Cases {
 
     /// Op 12: a sheet read for the cabin panel, with the code and index stated; then the station that the reading left
     /// written into a buffer of zeros, as long as the longest sheet: 7, and still zeros, where the sheet was refused.
+    #[track_caller]
     pub fn panel(&mut self, code: u8, index: u8, sheet: &[u8]) {
         let answer = panel::read(sheet).map_or_else(|fault| [fault.number(), fault.index()], |_| [0, 0]);
         assert_eq!(answer[1], index, "case {}", self.count + 1);

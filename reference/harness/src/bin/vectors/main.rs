@@ -1,4 +1,5 @@
-//! Writes the stored cases: `vectors FOLDER` puts the files `cases` and `stdout` there.
+//! Writes the stored cases: `vectors FOLDER` puts the files `cases` and `stdout` there, and `index`, the source line of
+//! each case.
 //! Every case states the code it is about; the program stops if this implementation gives another.
 
 #![deny(unsafe_code)]
@@ -50,7 +51,8 @@ fn main() {
     let write = |name: &str, bytes: &[u8]| fs::write(Path::new(&folder).join(name), bytes);
     let written = fs::create_dir_all(&folder)
         .and_then(|()| write("cases", &cases.bytes))
-        .and_then(|()| write("stdout", cases.stdout.as_bytes()));
+        .and_then(|()| write("stdout", cases.stdout.as_bytes()))
+        .and_then(|()| write("index", cases.index.as_bytes()));
     if let Err(error) = written {
         eprintln!("{folder}: {error}");
         process::exit(1);

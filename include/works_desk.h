@@ -2,23 +2,28 @@
  * The turnout works desk, for firmware in C (C99) or C++.
  *
  * Four archives, built by `rt staticlib NAME`:
- *   libworks_desk_journal.a  levels Halt, Junction and Line: sheets and their copies, records, journals, replaying a journal, both questions
- *                            after one
- *   libworks_desk_unit.a     levels Halt, Junction and Line: a desk of 520 bytes, heard one record at a time, and both questions of it
+ *   libworks_desk_journal.a  levels Halt, Junction and Line: sheets and their copies, records, journals, replaying a
+ *                            journal, both questions after one
+ *   libworks_desk_unit.a     levels Halt, Junction and Line: a desk of 520 bytes, heard one record at a time, and both
+ *                            questions of it
  *   libworks_desk_signals.a  level Line alone: verdicts for works on signals
  *   libworks_desk_panel.a    a cabin panel, a product of its own: reading a sheet within its limits
  * They may be linked together in any mix and order. They need memcpy, allocate nothing and keep nothing between calls.
  *
  * For every call:
- *   - No check is needed before it: every function takes any bytes, of any length, and any numbers, and is proved to return.
+ *   - No check is needed before it: every function takes any bytes, of any length, and any numbers, and is proved to
+ *     return.
  *   - A buffer goes as a pointer and its length in bytes. The pointer is not NULL, also where the length is 0.
- *   - Of one call, a buffer that is written overlaps no other buffer of that call. Buffers that are only read may overlap.
+ *   - Of one call, a buffer that is written overlaps no other buffer of that call. Buffers that are only read may
+ *     overlap.
  *   - The code that comes back is 0 if the call was accepted, else the first check that failed (enum desk_number). Only
  *     desk_journal_count has no code.
  *   - A refusal leaves every buffer as it was.
- *   - Several values come back packed in one number, the code in its lowest byte; the functions at each call take them apart.
+ *   - Several values come back packed in one number, the code in its lowest byte; the functions at each call take
+ *     them apart.
  *
- * Numbers in buffers are big-endian. A set of turnouts is 64 bits; bit n is turnout n. Turnouts, routes, zones and records count from 0.
+ * Numbers in buffers are big-endian. A set of turnouts is 64 bits; bit n is turnout n. Turnouts, routes, zones and
+ * records count from 0.
  */
 #ifndef WORKS_DESK_H
 #define WORKS_DESK_H
@@ -30,7 +35,10 @@
 extern "C" {
 #endif
 
-/* The version of this interface, raised when a call, a code, a packing, a field of a record or what an answer says changes. */
+/*
+ * The version of this interface, raised when a call, a code, a packing, a field of a record or what an answer says
+ * changes.
+ */
 #define DESK_INTERFACE_VERSION 6
 
 /* The version of a desk's 520 bytes, their byte 0. */
@@ -60,13 +68,15 @@ enum desk_number {
     DESK_E_SHEET_COUNTS = 4,   /* sheet: counts */
     DESK_E_SHEET_TURNOUT = 5,  /* sheet: bad turnout, with the record's index */
     DESK_E_SHEET_ROUTE = 6,    /* sheet: bad route, with the record's index */
-    DESK_E_NO_SHEET = 7,       /* writing a sheet: no sheet describes the station; no call here gives it, since a station comes from a sheet */
+    DESK_E_NO_SHEET = 7,       /* writing a sheet: no sheet describes the station; no call here gives it, since a
+                                  station comes from a sheet */
     DESK_E_SHEET_BUFFER = 8,   /* writing a sheet: the buffer is shorter than the sheet */
     DESK_E_PANEL_LIMITS = 9,   /* panel: more than 16 turnouts or 8 routes; panel_sheet alone gives it */
     DESK_E_RECORD_LENGTH = 10, /* a record, or the buffer for one, is not 32 bytes */
     DESK_E_KIND = 11,          /* kind not 1 to 13 */
     DESK_E_ZONE = 12,          /* zone not below the station's count */
-    DESK_E_FIELD = 13,         /* a field breaks its rule; writing a message that no record carries; a question about no turnout */
+    DESK_E_FIELD = 13,         /* a field breaks its rule; writing a message that no record carries; a question about
+                                  no turnout */
     DESK_E_TIME = 14,          /* time before the zone's last accepted */
     DESK_E_NO_ID = 15,         /* no work or movement under this id */
     DESK_E_OCCUPIED = 16,      /* work, a movement, a clearance or a release key is there already */
@@ -76,7 +86,8 @@ enum desk_number {
     DESK_E_CLEARANCE = 20,     /* a clearance that does not fit its turnout: position, drive, clamp or ends */
     DESK_E_MEDIUM = 21,        /* voice without a working recorder, or written with one */
     DESK_E_NOT_ALLOWED = 22,   /* not allowed under this form or this regime */
-    DESK_E_KEY = 23,           /* a release key that may not be used on that turnout: any on a run-over one, Tcl in the exit zone */
+    DESK_E_KEY = 23,           /* a release key that may not be used on that turnout: any on a run-over one, Tcl in the
+                                  exit zone */
     DESK_E_NO_JOURNAL = 30,    /* no journal: its length, mark, version, count or zeros */
     DESK_E_JOURNAL_FULL = 31,  /* the journal is full: 1,024 records, or under 32 bytes left */
     DESK_E_NO_RECORD = 32,     /* record n not below the journal's count */
@@ -87,9 +98,10 @@ enum desk_number {
 
 /* Under which signals a movement may be ordered. */
 enum desk_regime_number {
-    DESK_REGIME_HELD = 0,   /* a turnout of the route under agreed work has neither clearance nor release key; also with every refusal */
+    DESK_REGIME_HELD = 0,   /* a turnout of the route under agreed work has neither clearance nor release key; also with
+                               every refusal */
     DESK_REGIME_CLEAR = 1,  /* each of them is declared efficient or has a key: signals clear */
-    DESK_REGIME_DANGER = 2  /* each has a clearance or a key, and one without a key is not efficient: signals at danger */
+    DESK_REGIME_DANGER = 2  /* each has a clearance or a key, and one without a key is not efficient: at danger */
 };
 
 /* The lowest turnout where none lacks both a clearance and a key. */
@@ -107,8 +119,9 @@ enum desk_signal_verdict {
 };
 
 /*
- * A record, 32 bytes: kind (1), zone (1), time in seconds (4), id (4), set a (8), set b (8), details d0 to d5 (1 each).
- * Id is the form of the work (kinds 1 to 4, 10, 11) or the train (5 to 9, 13), not 0; for kind 12 it is 0. What a kind does not use is 0.
+ * A record, 32 bytes: kind (1), zone (1), time in seconds (4), id (4), set a (8), set b (8), details d0 to d5 (1
+ * each). Id is the form of the work (kinds 1 to 4, 10, 11) or the train (5 to 9, 13), not 0; for kind 12 it is 0.
+ * What a kind does not use is 0.
  */
 enum desk_kind {
     DESK_KIND_WORK_ASKED = 1,      /* a: turnouts; d0: 1 form M.45, 2 recorded verbal */
@@ -118,16 +131,17 @@ enum desk_kind {
     DESK_KIND_MOVEMENT_ASKED = 5,  /* d0: route, 0 to 63 */
     DESK_KIND_CLEARED = 6,         /* d0: turnout, 0 to 63; d1: declaration, 1 to 9; d2: 0 normal, 1 reverse;
                                       d3: 0 no clamp, 1 clamp, 2 attended; d4: 1 voice, 2 written;
-                                      d5: 1 where declaration 1 or 2 is given for a turnout with a partner and covers both
-                                      ends of the crossover, which it must there; else 0 */
+                                      d5: 1 where declaration 1 or 2 is given for a turnout with a partner and covers
+                                      both ends of the crossover, which it must there; else 0 */
     DESK_KIND_ORDERED = 7,         /* d0: 1 signals clear, 2 at danger */
     DESK_KIND_PASSED = 8,
     DESK_KIND_CANCELLED = 9,
     DESK_KIND_PART_RESTORED = 10,  /* a: turnouts */
     DESK_KIND_ALL_RESTORED = 11,
     DESK_KIND_RECORDER = 12,       /* d0: 0 out, 1 working */
-    DESK_KIND_KEY_USED = 13        /* d0: turnout, 0 to 63; d1: 1 Tcl, 2 Es. The turnout needs no clearance for the train and stays open
-                                      to work; the key lapses when the train passes or the movement is cancelled */
+    DESK_KIND_KEY_USED = 13        /* d0: turnout, 0 to 63; d1: 1 Tcl, 2 Es. The turnout needs no clearance for the
+                                      train and stays open to work; the key lapses when the train passes or the
+                                      movement is cancelled */
 };
 
 /* The dispatcher's release keys: either may be used on a flank turnout, Es also on one in the exit zone. */
@@ -142,8 +156,9 @@ static inline uint8_t desk_code(uint64_t answer) { return (uint8_t)(answer & 255
 /* ---- libworks_desk_journal.a ---- */
 
 /*
- * Reads a sheet (8 + 3P + 33R bytes, at most 2,312). Codes: 0, 1 to 6, in the order length under 8, mark, version, counts, length,
- * turnouts, routes; never 9. Back come the code and the index of the bad turnout or route (0 unless the code is 5 or 6).
+ * Reads a sheet (8 + 3P + 33R bytes, at most 2,312). Codes: 0, 1 to 6, in the order length under 8, mark, version,
+ * counts, length, turnouts, routes; never 9. Back come the code and the index of the bad turnout or route (0 unless
+ * the code is 5 or 6).
  */
 uint32_t desk_sheet(const uint8_t *sheet, size_t sheet_len);
 
@@ -151,27 +166,31 @@ uint32_t desk_sheet(const uint8_t *sheet, size_t sheet_len);
 static inline uint8_t desk_sheet_index(uint32_t answer) { return (uint8_t)(answer >> 8); }
 
 /*
- * Reads a sheet and writes it into the buffer, which may be longer: checks a corrected sheet and copies it. Codes: 0, the sheet's (1 to 6), 8.
- * It never gives 7. Back come the code and the index, as by desk_sheet. If accepted, the sheet's bytes stand at the start of the buffer and
- * the bytes past them stay; if refused, every byte stays.
+ * Reads a sheet and writes it into the buffer, which may be longer: checks a corrected sheet and copies it. Codes: 0,
+ * the sheet's (1 to 6), 8. It never gives 7. Back come the code and the index, as by desk_sheet. If accepted, the
+ * sheet's bytes stand at the start of the buffer and the bytes past them stay; if refused, every byte stays.
  */
 uint32_t desk_copy_sheet(const uint8_t *sheet, size_t sheet_len, uint8_t *buffer, size_t buffer_len);
 
-/* Reads a record (32 bytes). Codes: 0, 10, 11, 13. What depends on the station or on earlier messages is for the desk to check. */
+/*
+ * Reads a record (32 bytes). Codes: 0, 10, 11, 13. What depends on the station or on earlier messages is for the desk
+ * to check.
+ */
 uint8_t desk_record(const uint8_t *record, size_t record_len);
 
 /* Writes a message as a record into the buffer (32 bytes), if accepted. Codes: 0, 10, 13. */
-uint8_t desk_write_record(uint8_t kind, uint8_t zone, uint32_t time, uint32_t id, uint64_t a, uint64_t b, uint8_t d0, uint8_t d1,
-                          uint8_t d2, uint8_t d3, uint8_t d4, uint8_t d5, uint8_t *buffer, size_t buffer_len);
+uint8_t desk_write_record(uint8_t kind, uint8_t zone, uint32_t time, uint32_t id, uint64_t a, uint64_t b, uint8_t d0,
+                          uint8_t d1, uint8_t d2, uint8_t d3, uint8_t d4, uint8_t d5, uint8_t *buffer,
+                          size_t buffer_len);
 
 /*
- * Hears every record of a journal (16 + 32 x count bytes or more), from a fresh desk, and writes an answer for each into `answers`
- * (5 x count bytes or more; those past them stay): its code (0, 11 to 23), its minutes. Minutes are those from the agreement to an
- * accepted kind 11, to the nearest, an exact half minute to the even one (30 s: 0, 90 s: 2, 150 s: 2); else 0. Codes of the call: 0, the
- * sheet's, 30, 60; if it is not 0 nothing is written.
+ * Hears every record of a journal (16 + 32 x count bytes or more), from a fresh desk, and writes an answer for each
+ * into `answers` (5 x count bytes or more; those past them stay): its code (0, 11 to 23), its minutes. Minutes are
+ * those from the agreement to an accepted kind 11, to the nearest, an exact half minute to the even one (30 s: 0,
+ * 90 s: 2, 150 s: 2); else 0. Codes of the call: 0, the sheet's, 30, 60; if it is not 0 nothing is written.
  */
-uint8_t desk_replay(const uint8_t *sheet, size_t sheet_len, const uint8_t *journal, size_t journal_len, uint8_t *answers,
-                    size_t answers_len);
+uint8_t desk_replay(const uint8_t *sheet, size_t sheet_len, const uint8_t *journal, size_t journal_len,
+                    uint8_t *answers, size_t answers_len);
 
 /* Answer n of a replay, n below the journal's count. */
 static inline uint8_t desk_answer_code(const uint8_t *answers, size_t n) { return answers[DESK_ANSWER_BYTES * n]; }
@@ -183,9 +202,9 @@ static inline uint32_t desk_answer_minutes(const uint8_t *answers, size_t n)
 }
 
 /*
- * The movement question after a journal: may this train's movement in this zone be ordered, under which signals. Codes: 0, the
- * sheet's, 30, 12, 15. Back come the code, the regime, the lowest turnout that lacks a clearance and has no key (255 for none), how many
- * such there are; with a refusal: held, 255, 0.
+ * The movement question after a journal: may this train's movement in this zone be ordered, under which signals.
+ * Codes: 0, the sheet's, 30, 12, 15. Back come the code, the regime, the lowest turnout that lacks a clearance and
+ * has no key (255 for none), how many such there are; with a refusal: held, 255, 0.
  */
 uint64_t desk_movement(const uint8_t *sheet, size_t sheet_len, const uint8_t *journal, size_t journal_len, uint8_t zone,
                        uint32_t train);
@@ -195,15 +214,18 @@ static inline uint8_t desk_regime(uint64_t answer) { return (uint8_t)(answer >> 
 static inline uint8_t desk_lowest(uint64_t answer) { return (uint8_t)(answer >> 16 & 255u); }
 static inline uint8_t desk_count(uint64_t answer) { return (uint8_t)(answer >> 24 & 255u); }
 
-/* The work question after a journal: is this turnout open to work. Codes: 0, the sheet's, 30, 13. Back come the code and yes or no. */
+/*
+ * The work question after a journal: is this turnout open to work. Codes: 0, the sheet's, 30, 13. Back come the code
+ * and yes or no.
+ */
 uint32_t desk_work(const uint8_t *sheet, size_t sheet_len, const uint8_t *journal, size_t journal_len, uint8_t turnout);
 
 /* Of the answers of desk_work and unit_work: 1 yes, 0 no and with every refusal. */
 static inline int desk_yes(uint32_t answer) { return (int)(answer >> 8 & 1u); }
 
 /*
- * A journal: the letters WKJ, version (2 bytes, 1), count (4, at most 1,024), seven zeros, then its records. The 16 bytes of an empty
- * one are 'W' 'K' 'J' 0 1 and eleven zeros.
+ * A journal: the letters WKJ, version (2 bytes, 1), count (4, at most 1,024), seven zeros, then its records. The 16
+ * bytes of an empty one are 'W' 'K' 'J' 0 1 and eleven zeros.
  */
 
 /* Checks a journal's head and that its records are there; the records themselves are not read. Codes: 0, 30. */
@@ -219,21 +241,22 @@ uint64_t desk_journal_record(const uint8_t *journal, size_t journal_len, uint32_
 static inline size_t desk_record_place(uint64_t answer) { return (size_t)(answer >> 8); }
 
 /*
- * Adds a record (32 bytes) to a journal, whose buffer goes whole, with the room for further records. If accepted, the 32 bytes after
- * the last record and the count are written, no other byte. Codes: 0, 10, 11, 13, 30, 31.
+ * Adds a record (32 bytes) to a journal, whose buffer goes whole, with the room for further records. If accepted, the
+ * 32 bytes after the last record and the count are written, no other byte. Codes: 0, 10, 11, 13, 30, 31.
  */
 uint8_t desk_journal_add(uint8_t *journal, size_t journal_len, const uint8_t *record, size_t record_len);
 
 /* ---- libworks_desk_unit.a ---- */
 
 /*
- * A unit keeps its desk in 520 bytes and may store them anywhere, as they are, from one message to the next. They are of use with the
- * station's sheet alone, which goes with each call: with a changed sheet, begin with a fresh desk.
+ * A unit keeps its desk in 520 bytes and may store them anywhere, as they are, from one message to the next. They are
+ * of use with the station's sheet alone, which goes with each call: with a changed sheet, begin with a fresh desk.
  *
  * place  size
  *     0     1  version, 1 (DESK_BYTES_VERSION)
  *     1     7  0
- *     8    64  zone 0; zones 1 to 7 follow at 72, 136, 200, 264, 328, 392, 456. Zones that the station has not stay as they began.
+ *     8    64  zone 0; zones 1 to 7 follow at 72, 136, 200, 264, 328, 392, 456. Zones that the station has not stay
+ *              as they began.
  *
  * A zone, place from its start:
  *     0     1  work: 0 none, 1 asked, 2 agreed
@@ -253,21 +276,23 @@ uint8_t desk_journal_add(uint8_t *journal, size_t journal_len, const uint8_t *re
  *    54     8  set of the turnouts on which a release key was used for the train
  *    62     2  0
  *
- * What a zone has not is 0: with no work all of 1 to 25, with work asked 14 to 25, with no movement 27 to 48 and 54 to 61. Bytes that
- * break this, a version or a reserved byte, or that have another stage, movement or recorder, are no desk: 61. Other damage does not
- * show, so a unit that stores its desk should guard it with a sum of its own. A fresh desk is 1, and 1 at place 49 of each zone, else 0.
+ * What a zone has not is 0: with no work all of 1 to 25, with work asked 14 to 25, with no movement 27 to 48 and 54
+ * to 61. Bytes that break this, a version or a reserved byte, or that have another stage, movement or recorder, are
+ * no desk: 61. Other damage does not show, so a unit that stores its desk should guard it with a sum of its own. A
+ * fresh desk is 1, and 1 at place 49 of each zone, else 0.
  *
- * In bytes that were stored under interface versions up to 5 the place of the keys is 0: they are a desk without keys. A unit of such a
- * version refuses bytes with keys by 61.
+ * In bytes that were stored under interface versions up to 5 the place of the keys is 0: they are a desk without
+ * keys. A unit of such a version refuses bytes with keys by 61.
  */
 
 /* Writes the fresh desk (520 bytes): no work, no movement, recorders working, times 0. Codes: 0, 61. */
 uint8_t unit_fresh(uint8_t *desk, size_t desk_len);
 
 /*
- * Hears a record (32 bytes). If accepted, the desk (520 bytes) is written as it then stands; if refused, it stays as it was. Codes: 0, the
- * sheet's, 61, 10 to 23, in that order. Back come the code and the minutes, as desk_replay writes them: of an accepted kind 11, else 0.
- * Records heard one by one from a fresh desk get the codes and minutes that desk_replay gives for their journal.
+ * Hears a record (32 bytes). If accepted, the desk (520 bytes) is written as it then stands; if refused, it stays as
+ * it was. Codes: 0, the sheet's, 61, 10 to 23, in that order. Back come the code and the minutes, as desk_replay
+ * writes them: of an accepted kind 11, else 0. Records heard one by one from a fresh desk get the codes and minutes
+ * that desk_replay gives for their journal.
  */
 uint64_t unit_apply(const uint8_t *sheet, size_t sheet_len, uint8_t *desk, size_t desk_len, const uint8_t *record,
                     size_t record_len);
@@ -287,10 +312,10 @@ uint32_t unit_work(const uint8_t *sheet, size_t sheet_len, const uint8_t *desk, 
 /*
  * The verdict for works on a signal. Codes: 0, 33. Back come the code and the verdict (0 if refused).
  * Line: 1 axle-counter, manual or telephone block, 2 coded-current automatic block, 3 without train protection.
- * Signal: 0 distant, 1 outer or only home, 2 inner home, 3 starting, 4 block post (on line 2 one that guards a crossing or singular
- * place or serves as distant), 5 other automatic block post.
- * Flags, added up: 1 can be held at danger, 2 day, 4 SSC fitted, 8 its danger message ensured, 16 auxiliary lights touched, 32 those
- * cannot light wrongly.
+ * Signal: 0 distant, 1 outer or only home, 2 inner home, 3 starting, 4 block post (on line 2 one that guards a
+ * crossing or singular place or serves as distant), 5 other automatic block post.
+ * Flags, added up: 1 can be held at danger, 2 day, 4 SSC fitted, 8 its danger message ensured, 16 auxiliary lights
+ * touched, 32 those cannot light wrongly.
  */
 uint32_t desk_verdict(uint8_t line, uint8_t signal, uint8_t flags);
 

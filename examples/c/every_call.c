@@ -1,6 +1,6 @@
 /*
- * every_call: calls every function of works_desk.h on small inputs whose answers are known by hand. It prints 'every call: as expected'
- * and returns 0, or prints each call that differs and returns 1. It needs all four archives.
+ * every_call: calls every function of works_desk.h on small inputs whose answers are known by hand. It prints 'every
+ * call: as expected' and returns 0, or prints each call that differs and returns 1. It needs all four archives.
  */
 #include <inttypes.h>
 #include <stdio.h>
@@ -14,8 +14,9 @@ enum { MESSAGES = 6, STANDING = 4 };
 static const uint8_t sheet[47] = {'S', 'P', 'T', 0, 1, 2, 1, 1, 0, 255, 0, 0, 255, 0, 0, 0, 0, 0, 0, 0, 0, 0, 3};
 
 /*
- * A conversation about work on turnout 1, every message of it accepted. After the first four (STANDING) the turnout is open to work and
- * train 512 lacks its clearance; at the end all is restored, a minute and a half after the agreement: 2 minutes.
+ * A conversation about work on turnout 1, every message of it accepted. After the first four (STANDING) the turnout
+ * is open to work and train 512 lacks its clearance; at the end all is restored, a minute and a half after the
+ * agreement: 2 minutes.
  */
 static const struct {
     uint8_t kind;
@@ -78,8 +79,8 @@ static void check_sheet(void)
 /* Writes message n as a record. */
 static uint8_t write_message(size_t n, size_t record_len)
 {
-    return desk_write_record(messages[n].kind, 0, messages[n].time, messages[n].id, messages[n].a, 0, messages[n].d0, 0, 0, 0, 0, 0,
-                             record, record_len);
+    return desk_write_record(messages[n].kind, 0, messages[n].time, messages[n].id, messages[n].a, 0, messages[n].d0,
+                             0, 0, 0, 0, 0, record, record_len);
 }
 
 static void check_record(void)
@@ -119,7 +120,10 @@ static void check_replay(void)
     }
 }
 
-/* The answers while the movement stands: held, for turnout 1 lacks a clearance and no other does; turnout 1 is open to work. */
+/*
+ * The answers while the movement stands: held, for turnout 1 lacks a clearance and no other does; turnout 1 is open
+ * to work.
+ */
 static void check_standing(uint64_t movement, uint32_t work)
 {
     CHECK(desk_code(movement), DESK_E_ACCEPTED);
@@ -163,8 +167,8 @@ static void check_unit(void)
 }
 
 /*
- * Writes a clearance of turnout 0 for train 512: declaration 1 (all efficient), normal position, no clamp, by voice; ends is 1 if it covers
- * both ends of a crossover.
+ * Writes a clearance of turnout 0 for train 512: declaration 1 (all efficient), normal position, no clamp, by voice;
+ * ends is 1 if it covers both ends of a crossover.
  */
 static uint8_t write_clearance(uint8_t ends)
 {
@@ -200,7 +204,10 @@ static uint8_t write_key(uint8_t key)
     return desk_write_record(DESK_KIND_KEY_USED, 0, 60, 512, 0, 0, 1, key, 0, 0, 0, 0, record, sizeof record);
 }
 
-/* The station with turnout 1 in the exit zone of the route: Tcl may not be used on it, Es may; the train then lacks nothing. */
+/*
+ * The station with turnout 1 in the exit zone of the route: Tcl may not be used on it, Es may; the train then lacks
+ * nothing.
+ */
 static void check_key(void)
 {
     uint8_t exits[sizeof sheet];
@@ -236,7 +243,10 @@ static void check_verdict(void)
 /* One turnout and one route past a panel's limits. */
 enum { PLAIN_MOST = PANEL_SHEET_MOST + 3 + 33 };
 
-/* Writes a sheet of one zone, whose turnouts are alone and electric and whose routes run over turnout 0; gives its length. */
+/*
+ * Writes a sheet of one zone, whose turnouts are alone and electric and whose routes run over turnout 0; gives its
+ * length.
+ */
 static size_t plain_sheet(uint8_t *to, uint8_t turnouts, uint8_t routes)
 {
     const uint8_t head[8] = {'S', 'P', 'T', 0, 1, turnouts, routes, 1};

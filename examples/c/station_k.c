@@ -1,7 +1,8 @@
 /*
- * station_k FOLDER: a unit in C. It hears the records of the file `journal` one by one, over the desk in its 520 bytes, for the station
- * of the file `sheet`, and prints what the desk program prints: a line for each record, its number from 1, the code, the minutes; or the
- * number alone of a refused sheet, else of a refused journal. Then it asks its desk both questions once, on stderr.
+ * station_k FOLDER: a unit in C. It hears the records of the file `journal` one by one, over the desk in its 520
+ * bytes, for the station of the file `sheet`, and prints what the desk program prints: a line for each record, its
+ * number from 1, the code, the minutes; or the number alone of a refused sheet, else of a refused journal. Then it
+ * asks its desk both questions once, on stderr.
  */
 #include <stdio.h>
 
@@ -51,9 +52,11 @@ static void ask(size_t sheet_len)
 {
     uint32_t work = unit_work(sheet, sheet_len, desk, sizeof desk, 0);
     uint64_t movement = unit_movement(sheet, sheet_len, desk, sizeof desk, 0, 512);
-    fprintf(stderr, "work, turnout 0: code %u, open to work %s\n", (unsigned)desk_code(work), desk_yes(work) ? "yes" : "no");
-    fprintf(stderr, "movement, zone 0, train 512: code %u, regime %u, lowest %u, count %u\n", (unsigned)desk_code(movement),
-            (unsigned)desk_regime(movement), (unsigned)desk_lowest(movement), (unsigned)desk_count(movement));
+    fprintf(stderr, "work, turnout 0: code %u, open to work %s\n", (unsigned)desk_code(work),
+            desk_yes(work) ? "yes" : "no");
+    fprintf(stderr, "movement, zone 0, train 512: code %u, regime %u, lowest %u, count %u\n",
+            (unsigned)desk_code(movement), (unsigned)desk_regime(movement), (unsigned)desk_lowest(movement),
+            (unsigned)desk_count(movement));
 }
 
 /* The number that refuses the sheet, else the journal; 0 if both are good. */

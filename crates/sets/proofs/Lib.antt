@@ -3,3 +3,6 @@ pub mod Members
 pub mod Counting
 pub mod Ranges
 pub mod Tables
+pub mod Finding
+pub mod Totals
+pub mod Sizes

@@ -1,5 +1,5 @@
 -- Which turnouts are in the intersection, the union and the difference of two sets, in the set of
--- one turnout and in the empty set.
+-- one turnout, in the empty set and in the set of those that pass a test.
 use mathlib.Core.Bool.{Bool, true, false, cond, not, _&&_, _||_, and-true, and-false, or-false}
 use mathlib.Core.Path.{_≡_, refl, sym, ap, ap₂, _∙_}
 use Prim.Native.Nat.{ℕ, zero, suc, _/_, _%_, _^_, _≤_, _<_, zero-le}
@@ -11,7 +11,7 @@ use borrow.Author.Tests.{eqb-true, eqb-false, lt-ltb, le-ltb, ltb-true, ltb-fals
 use lib.Dec.{eqb, ltb, eqb·suc-zero, eqb·zero-suc, eqb·suc-suc}
 use lib.Pow.{pow-mono, shr-lt, shr-shr}
 use lib.Bits.{bitAnd, bitOr, bitXor, and-shr, or-shr, xor-shr, and-mod, or-mod, xor-mod}
-use Rattle.sets.specs.Sets.{has, single, without, setOf}
+use Rattle.sets.specs.Sets.{has, single, union, without, setOf}
 
 -- the lowest digit is 1: turnout n is in s where s / 2 ^ n is odd
 abbrev odd : ℕ → Bool
@@ -149,3 +149,13 @@ has-setOf p (suc n) k limit =
             let other : k ≡ n → ⊥ = eqb-false k n e in
             let past : n ≤ k = ltb-false k n l in
             l ∙ sym (le-ltb k (suc n) (omega arith))
+
+-- equal tests give equal sets
+pub set-same :
+    (p q : ℕ → Bool) (n : ℕ) → ((k : ℕ) → k < n → p k ≡ q k) → setOf p n ≡ setOf q n
+unfolding setOf
+set-same p q zero e = refl
+set-same p q (suc n) e =
+    ap₂ (λ (s : ℕ) (b : Bool). union s (cond b (single n) 0))
+    (set-same p q n (λ k l. e k (omega arith)))
+    (e n (le-refl (suc n)))

@@ -103,3 +103,9 @@ module _ {A : Type 0} where
       go true q = getD-places f n e i e (ltb-true i 64 q) ∙ rw (le-ltb i n h)
       go false q =
           List·getD-eq-default (places f n e) e (rw (length-places f n e) (ltb-false i 64 q))
+
+  -- and below it what was filled in
+  pub places-below :
+      (f : ℕ → A) (n : ℕ) (e : A) (i : ℕ) → i < min n 64 → getD (places f n e) i e ≡ f i
+  places-below f n e i l =
+      getD-places f n e i e (omega arith) ∙ rw (lt-ltb i n (omega arith))

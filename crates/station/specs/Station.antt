@@ -1,13 +1,12 @@
--- What a station says of its turnouts, routes and zones, for every station value. VALUE-1 to
--- VALUE-3 (docs/RULES.md): "a count over its limit is read as the limit, a partner not below P as
--- none, a stored route not below R names nothing".
-use mathlib.Core.Bool.{Bool, cond, not, _&&_, _||_}
+-- What a station says of its turnouts, routes and zones, for every station value. VALUE-1 and
+-- VALUE-3 (docs/RULES.md): "a count over its limit is read as the limit, .. a stored route not below
+-- R names nothing". What is tied together is in the crate `groups`.
+use mathlib.Core.Bool.{Bool, cond}
 use mathlib.Core.List.{List}
 use Prim.Native.Nat.{ℕ, min}
 use lib.Dec.{eqb, ltb}
 use lib.ListN.{getD, replicate}
-use Rattle.sets.specs.Range.{allFrom}
-use Rattle.sets.specs.Sets.{single, union, within, overlaps, setOf}
+use Rattle.sets.specs.Sets.{union, setOf}
 use Rattle.station.specs.declared.Turnout.{Turnout}
 use Rattle.station.specs.declared.Route.{Route}
 use Rattle.station.specs.declared.Station.{Station}
@@ -17,7 +16,7 @@ abbrev pub numberIf : Bool → ℕ → ℕ → ℕ
 numberIf test number rest = cond test number rest
 
 abbrev pub emptyTurnout : Turnout
-emptyTurnout = record { zone = 0; partner = 0; drive = 0 }
+emptyTurnout = record { zone = 0; group = 0; drive = 0 }
 
 abbrev pub emptyRoute : Route
 emptyRoute = record { zone = 0; over = 0; flank = 0; exits = 0; reverse = 0 }
@@ -31,6 +30,11 @@ emptyStation = record {
   turnout = replicate 64 emptyTurnout;
   route = replicate 64 emptyRoute;
 }
+
+-- a station by its turnouts alone: P, Z and their records, for what does not look at routes
+abbrev pub turnoutsAlone : ℕ → ℕ → List Turnout → Station
+turnoutsAlone p z ts =
+    record { turnouts = p; routes = 0; zones = z; turnout = ts; route = replicate 64 emptyRoute }
 
 -- the stored records; past the last place every number is 0
 abbrev pub turnoutAt : Station → ℕ → Turnout
@@ -55,22 +59,6 @@ zoneOf st n = turnoutAt st n .zone
 abbrev pub driveOf : Station → ℕ → ℕ
 driveOf st n = turnoutAt st n .drive
 
--- the turnouts tied to turnout n: itself and its partner; VALUE-2: "a partner not below P as none"
-unfoldable pub tiedWith : ℕ → ℕ → ℕ → ℕ
-tiedWith p n partner = union (single n) (cond (ltb partner p) (single partner) 0)
-
--- the same, out of the records ts of p turnouts
-abbrev pub tiedAmong : ℕ → List Turnout → ℕ → ℕ
-tiedAmong p ts n = tiedWith p n (getD ts n emptyTurnout .partner)
-
-unfoldable pub tied : Station → ℕ → ℕ
-tied st n = tiedAmong (turnoutCount st) (st .turnout) n
-
--- FIT-4, VALUE-2, "a turnout with a partner", by the station alone: its number and the one that it
--- names are below P, also where it names itself or is not named back
-unfoldable pub hasPartner : Station → ℕ → Bool
-hasPartner st n = ltb n (turnoutCount st) && ltb (turnoutAt st n .partner) (turnoutCount st)
-
 -- the turnouts of a zone
 unfoldable pub zoneTurnouts : Station → ℕ → ℕ
 zoneTurnouts st z = setOf (λ n. eqb (zoneOf st n) z) (turnoutCount st)
@@ -91,12 +79,3 @@ routeIndex n = cond (ltb n 64) n 0
 
 abbrev pub routeBy : ℕ → ℕ → Route → Route
 routeBy count n r = cond (ltb n (min count 64)) r emptyRoute
-
--- a set takes all of a group of tied turnouts, or none
-abbrev pub whole : ℕ → ℕ → Bool
-whole group s = within group s || not (overlaps group s)
-
--- KIND-1.2, KIND-10.2, VALUE-2, "splitting a crossover": one end is in the set and the other is
--- not; every turnout below P is looked at, also one that its partner does not name back
-unfoldable pub splits : Station → ℕ → Bool
-splits st s = not (allFrom (λ n. whole (tied st n) s) 0 (turnoutCount st))

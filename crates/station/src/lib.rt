@@ -1,6 +1,6 @@
-// Stations: what a station says of its turnouts, routes and zones (SHEET-2 to SHEET-9 and VALUE-1 to VALUE-3 of
+// Stations: what a station says of its turnouts, routes and zones (SHEET-2 to SHEET-9, VALUE-1 and VALUE-3 of
 // docs/RULES.md). The rules are in specs/Station.antt. Every function takes any station value, also one that no sheet
-// gave. The crate `sheet` reads a station.
+// gave. The crate `groups` says what is tied together, the crate `sheet` reads a station.
 ghost use mathlib.Core.Path.{_≡_};
 ghost use Prim.Native.Nat.{_<_};
 ghost use Rattle.station.specs.Station.{
@@ -11,14 +11,11 @@ ghost use Rattle.station.specs.Station.{
   zoneCount,
   zoneOf,
   driveOf,
-  tied,
-  hasPartner,
   zoneTurnouts,
   theRoute,
   routeIndex,
   routeBy,
   namedBy,
-  splits,
 };
 
 pub mod observe;
@@ -30,10 +27,10 @@ pub const ROUTES: usize = 64;
 
 pub const ZONES: usize = 8;
 
-// A turnout: its zone, the other end of its crossover (255 for none), its drive (0 electric, 1 hand with key lock).
+// A turnout: its zone, the number of its group (255 for alone), its drive (0 electric, 1 hand with key lock).
 pub struct Turnout {
     pub zone: u8,
-    pub partner: u8,
+    pub group: u8,
     pub drive: u8,
 }
 
@@ -73,11 +70,7 @@ pub fn route_count(st: Station) -> usize
 pub fn zone_count(st: Station) -> usize
     ensures { λ r. ⌜ r ≡ zoneCount st ⌝ }
 {
-    let n = st.zones as usize;
-    if n < ZONES {
-        return n;
-    }
-    ZONES
+    observe::at_most_8(st.zones)
 }
 
 // The zone of a turnout, as stored; 0 from 64 on.
@@ -96,26 +89,6 @@ pub fn drive_of(st: Station, n: usize) -> u8
     let ts = st.turnout;
     let t = observe::record_of(ts, n);
     t.drive
-}
-
-// The turnouts tied to a turnout: itself and its partner (VALUE-2).
-pub fn tied_to(st: Station, n: usize) -> u64
-    ensures { λ r. ⌜ r ≡ tied st n ⌝ }
-{
-    let ts = st.turnout;
-    let t = observe::record_of(ts, n);
-    observe::tied_with(turnout_count(st), n, t.partner)
-}
-
-// Whether a turnout has a partner: it is one of the station's, and so is its partner (FIT-4, VALUE-2).
-pub fn has_partner(st: Station, n: usize) -> bool
-    ensures { λ r. ⌜ r ≡ hasPartner st n ⌝ }
-{
-    let p = turnout_count(st);
-    let ts = st.turnout;
-    let t = observe::record_of(ts, n);
-    let other = t.partner as usize;
-    (n < p) & (other < p)
 }
 
 // The turnouts of a zone.
@@ -187,22 +160,4 @@ pub fn names(r: Route) -> u64
     ensures { λ s. ⌜ s ≡ namedBy r ⌝ }
 {
     sets::join(sets::join(r.over, r.flank), r.exits)
-}
-
-// Whether a set has one end of a crossover and not the other (KIND-1.2, VALUE-2). The loop counts in eight bits
-// (VALUE-1, M-104).
-pub fn splits_crossover(st: Station, s: u64) -> bool
-    ensures { λ r. ⌜ r ≡ splits st s ⌝ }
-{
-    let limit = turnout_count(st) as u8;
-    let ts = st.turnout;
-    let mut i: u8 = 0;
-    while i < limit {
-        let t = ts[i as usize];
-        if !observe::is_whole(observe::tied_with(limit as usize, i as usize, t.partner), s) {
-            return true;
-        }
-        i += 1;
-    }
-    false
 }

@@ -1,13 +1,14 @@
-// Small functions on the numbers and records of a station that its observers and its judge share.
+// Small functions on the numbers and records of a station, for its observers and for the crates that read it.
 ghost use mathlib.Core.Path.{_≡_};
 ghost use mathlib.Core.Bool.{cond};
 ghost use Prim.Native.Nat.{min};
 ghost use lib.ListN.{getD, replicate};
 ghost use Rattle.sets.specs.Sets.{single, union};
-ghost use Rattle.station.specs.Station.{emptyTurnout, emptyRoute, tiedWith, whole};
+ghost use Rattle.station.specs.Station.{emptyTurnout, emptyRoute};
 use super::Route;
 use super::TURNOUTS;
 use super::Turnout;
+use super::ZONES;
 
 pub fn at_most_64(n: u8) -> usize
     ensures { λ r. ⌜ r ≡ min n 64 ⌝ }
@@ -19,13 +20,23 @@ pub fn at_most_64(n: u8) -> usize
     TURNOUTS
 }
 
+pub fn at_most_8(n: u8) -> usize
+    ensures { λ r. ⌜ r ≡ min n 8 ⌝ }
+{
+    let n = n as usize;
+    if n < ZONES {
+        return n;
+    }
+    ZONES
+}
+
 // 64 turnout records that are 0.
 pub fn no_turnouts() -> [Turnout; 64]
     ensures { λ r. ⌜ r ≡ replicate 64 emptyTurnout ⌝ }
 {
     [Turnout {
         zone: 0,
-        partner: 0,
+        group: 0,
         drive: 0,
     }; 64]
 }
@@ -59,20 +70,9 @@ pub fn record_of(ts: [Turnout; 64], n: usize) -> Turnout
     }
     Turnout {
         zone: 0,
-        partner: 0,
+        group: 0,
         drive: 0,
     }
-}
-
-// Turnout n and its partner, if that is one of the p turnouts.
-pub fn tied_with(p: usize, n: usize, partner: u8) -> u64
-    ensures { λ r. ⌜ r ≡ tiedWith p n partner ⌝ }
-{
-    let other = partner as usize;
-    if other < p {
-        return sets::join(sets::only(n), sets::only(other));
-    }
-    sets::only(n)
 }
 
 // The set with turnout n added where the test holds.
@@ -83,11 +83,4 @@ pub fn with_turnout(s: u64, n: usize, test: bool) -> u64
         return sets::join(s, sets::only(n));
     }
     s
-}
-
-// Whether a set takes all of a group, or none of it.
-pub fn is_whole(group: u64, s: u64) -> bool
-    ensures { λ r. ⌜ r ≡ whole group s ⌝ }
-{
-    sets::is_within(group, s) | !sets::overlap(group, s)
 }

@@ -1,6 +1,6 @@
 use borrow.Author.Needs.{needs}
-use Rattle.station.proofs.observe.is_whole.Statement.{statement}
-use Rattle.station.proofs.observe.is_whole.Tie as tie
+use Rattle.groups.proofs.is_whole.Statement.{statement}
+use Rattle.groups.proofs.is_whole.Tie as tie
 
 returns : tie.Need-returns
 returns c =

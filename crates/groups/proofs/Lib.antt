@@ -1,0 +1,4 @@
+pub mod Labels
+pub mod Ties
+pub mod Numbers
+pub mod Cases

@@ -1,7 +1,7 @@
 -- Tests joined by && and ||, taken apart.
 use mathlib.Core.Bool.{Bool, true, false, not, _&&_, _||_, and-eq-true-iff, false≢true}
 use mathlib.Core.Logic.{_⊎_, inl, inr}
-use mathlib.Core.Path.{_≡_, refl}
+use mathlib.Core.Path.{_≡_, refl, sym}
 
 -- each of three tests joined by && passes
 pub three : (a b c : Bool) → (a && b && c) ≡ true → (a ≡ true) × (b ≡ true) × (c ≡ true)
@@ -46,3 +46,9 @@ either false b h = inr h
 pub asked : (a b : Bool) → (not a || b) ≡ true → a ≡ true → b ≡ true
 asked true b h e = h
 asked false b h e = absurd (false≢true e)
+
+-- two tests of which each gives the other
+pub same-test : (a b : Bool) → (a ≡ true → b ≡ true) → (b ≡ true → a ≡ true) → a ≡ b
+same-test true b f g = sym (f refl)
+same-test false true f g = g refl
+same-test false false f g = refl

@@ -1,5 +1,5 @@
 -- The bytes of a station sheet: SHEET-1, SHEET-2, SHEET-4 and SHEET-10 to SHEET-12 (docs/RULES.md).
-use mathlib.Core.Bool.{Bool, cond, not, _&&_}
+use mathlib.Core.Bool.{Bool, cond, not, _&&_, _||_}
 use mathlib.Core.List.{List}
 use Prim.Native.Nat.{ℕ, _+_, _*_}
 use lib.Dec.{eqb, ltb, leb}
@@ -11,7 +11,7 @@ use Rattle.station.specs.declared.Route.{Route}
 use Rattle.station.specs.declared.Station.{Station}
 use Rattle.station.specs.Station.{emptyTurnout, emptyRoute}
 
--- SHEET-1: "Header, 8 bytes: the letters SPT, version (16 bits, 1), counts P of turnouts .., R of
+-- SHEET-1: "Header, 8 bytes: the letters SPT, version (16 bits, ..), counts P of turnouts .., R of
 -- routes .., Z of zones .., a byte each."
 abbrev pub hasMark : List ℕ → Bool
 hasMark s = eqb (getD s 0 0) 83 && eqb (getD s 1 0) 80 && eqb (getD s 2 0) 84
@@ -28,9 +28,9 @@ countR s = getD s 6 0
 abbrev pub countZ : List ℕ → ℕ
 countZ s = getD s 7 0
 
--- SHEET-1: "version (16 bits, 1)"
+-- SHEET-1: "version, 16 bits, 1 or 2"
 abbrev pub versionKept : ℕ → Bool
-versionKept v = eqb v 1
+versionKept v = eqb v 1 || eqb v 2
 
 -- at most so many turnouts and routes
 abbrev pub withinLimits : ℕ → ℕ → ℕ → ℕ → Bool
@@ -65,10 +65,12 @@ lengthNumber s = cond (not (lengthKept s)) 1 0
 unfoldable pub headerNumber : List ℕ → ℕ
 headerNumber s = beforeLength s (lengthNumber s)
 
--- SHEET-2: "turnout records of 3 bytes: zone ..; partner ..; drive ..": the record at an index
+-- SHEET-2: "turnout records of 3 bytes: zone ..; the number of its group ..; drive ..": the record at an
+-- index. In version 1 the byte between is the partner, which stands in the place of the number until
+-- crossovers become groups (SHEET-13, SHEET-14).
 abbrev pub turnoutIn : List ℕ → ℕ → Turnout
 turnoutIn s at =
-    record { zone = getD s at 0; partner = getD s (at + 1) 0; drive = getD s (at + 2) 0 }
+    record { zone = getD s at 0; group = getD s (at + 1) 0; drive = getD s (at + 2) 0 }
 
 -- SHEET-4: "routes of 33 bytes: zone, then the sets run over, flank, exit zone, reverse": the
 -- record at an index

@@ -5,6 +5,7 @@ ghost use mathlib.Core.Path.{_≡_};
 ghost use Prim.Native.Nat.{_<_};
 ghost use Rattle.layout.specs.Layout.{
   hasMark,
+  version,
   versionKept,
   withinLimits,
   countsKept,
@@ -66,7 +67,14 @@ pub fn counts_kept(p: u8, r: u8, z: u8) -> bool
 fn version_kept(v: u16) -> bool
     ensures { λ r. ⌜ r ≡ versionKept v ⌝ }
 {
-    v == 1
+    (v == 1) | (v == 2)
+}
+
+// The version of a sheet (SHEET-1).
+pub fn version_of(s: &[u8]) -> u16
+    ensures { λ r. ⌜ r ≡ version (now (s .entry)) ⌝ }
+{
+    bigendian::get16(s, 3)
 }
 
 // The length of a sheet with so many turnouts and routes (SHEET-10).
@@ -90,7 +98,7 @@ pub fn before_length(s: &[u8], later: u8) -> u8
         BAD_COUNTS,
         later,
     );
-    let version = first_code(!version_kept(bigendian::get16(s, 3)), BAD_VERSION, counts);
+    let version = first_code(!version_kept(version_of(s)), BAD_VERSION, counts);
     let mark = first_code(!has_mark(s), BAD_MARK, version);
     first_code(s.len() < HEADER, BAD_LENGTH, mark)
 }
@@ -119,7 +127,7 @@ fn turnout_in(s: &[u8], at: usize) -> Turnout
 {
     Turnout {
         zone: bigendian::get8(s, at),
-        partner: bigendian::get8(s, at + 1),
+        group: bigendian::get8(s, at + 1),
         drive: bigendian::get8(s, at + 2),
     }
 }

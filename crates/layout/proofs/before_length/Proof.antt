@@ -13,7 +13,7 @@ returns c =
       mark .has-mark .ensures,
       mark .before .first-code2 .ensures,
       version .version-kept .ensures,
-      version .before .get16 .ensures,
+      version .before .version-of .ensures,
       version .before .before .first-code .ensures,
       counts .counts-kept .ensures,
       counts .before .get83 .ensures,

@@ -1,0 +1,4 @@
+pub mod Likes
+pub mod FirstCarrier
+pub mod Guaranteed
+pub mod Cases

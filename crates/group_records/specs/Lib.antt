@@ -1,0 +1,4 @@
+pub mod GroupRecords
+pub mod FirstCarrier
+pub mod Guaranteed
+pub mod Cases

@@ -1,0 +1,5 @@
+pub mod Partnered
+pub mod Ends
+pub mod Pairs
+pub mod Renumbered
+pub mod Cases

@@ -1,0 +1,3 @@
+pub mod PartnerRecords
+pub mod Crossovers
+pub mod Cases

@@ -4,16 +4,17 @@ use mathlib.Core.Bool.{true, not, _||_, and-eq-true-iff}
 use mathlib.Core.Path.{_≡_}
 use Prim.Native.Nat.{ℕ, _≤_, _<_}
 use native.Mathlib.Omega.{arith}
-use borrow.Author.Tests.{eqb-true, not-true}
+use borrow.Author.Tests.{eqb-true, eq-eqb, not-true}
 use lib.Dec.{eqb}
 use lib.Bits.{bitAnd}
 use Rattle.sets.specs.Range.{allFrom}
-use Rattle.sets.specs.Sets.{has, isEmpty, overlaps, within}
+use Rattle.sets.specs.Sets.{has, isEmpty, overlaps, within, count}
 use Rattle.sets.proofs.Ranges.{all-below}
 use Rattle.sets.proofs.Members.{among-below}
 use Rattle.station.specs.declared.Route.{Route}
 use Rattle.station.specs.declared.Station.{Station}
-use Rattle.station.specs.Station.{turnoutAt, routeAt, turnoutCount, zoneOf, tied, namedBy, whole}
+use Rattle.station.specs.Station.{turnoutAt, routeAt, turnoutCount, zoneOf, namedBy}
+use Rattle.groups.specs.Groups.{tied, whole}
 use Rattle.sheet.specs.Accepted.{GoodRoute}
 use Rattle.sheet.specs.Sheet.{allTurnouts, setsKept, memberKept, goodRoute}
 use Rattle.layout.proofs.Joined.{three, six, asked}
@@ -26,7 +27,8 @@ module _ (st : Station) where
       (t : ℕ) → t < turnoutCount st →
       (has (namedBy x) t ≡ true → zoneOf st t ≡ x .zone)
       × (has (x .flank) t ≡ true → within (tied st t) (x .flank) ≡ true)
-      × (whole (bitAnd (tied st t) (namedBy x)) (x .reverse) ≡ true)
+      × (count (tied st t) ≡ 2
+      → whole (bitAnd (tied st t) (namedBy x)) (x .reverse) ≡ true)
   good-members x h t l =
       let here =
       all-below (λ t. memberKept x t (turnoutAt st t) (tied st t)) (turnoutCount st) h t l in
@@ -35,10 +37,12 @@ module _ (st : Station) where
       let flank = has (x .flank) t in
       let in-flank = within (tied st t) (x .flank) in
       let position = whole (bitAnd (tied st t) (namedBy x)) (x .reverse) in
-      let kept = three (not named || in-zone) (not flank || in-flank) position here in (
+      let two = eqb (count (tied st t)) 2 in
+      let kept =
+      three (not named || in-zone) (not flank || in-flank) (not two || position) here in (
         λ m. eqb-true (zoneOf st t) (x .zone) (asked named in-zone (kept .0) m),
         asked flank in-flank (kept .1),
-        kept .2,
+        λ e. asked two position (kept .2) (eq-eqb (count (tied st t)) 2 e),
       )
 
   -- where the count of turnouts is in range, the tests read it as it stands

@@ -1,3 +1,4 @@
-pub mod Partners
 pub mod Sheet
 pub mod Accepted
+pub mod VersionOne
+pub mod Cases

@@ -1,30 +1,37 @@
-// Judging a station whose counts are in range: the first bad turnout, then the first bad route (SHEET-5 to SHEET-9 and
-// SHEET-11 of docs/RULES.md).
+// Judging a station whose counts are in range: the first bad turnout, by the rules of its sheet's version, then the
+// first bad route (SHEET-5 to SHEET-9 and SHEET-11 of docs/RULES.md).
 ghost use mathlib.Core.Path.{_≡_};
 ghost use Rattle.sheet.specs.Sheet.{
   allTurnouts,
   setsKept,
-  memberKept,
+  memberBy,
+  pairIn,
   badRoute,
   refusedSheet,
   findingOf,
   routesJudged,
+  badTurnoutBy,
+  turnoutsFound,
+  meant,
   judged,
 };
 ghost use Prim.Native.Nat.{min};
+ghost use lib.ListN.{getD};
+ghost use Rattle.sets.specs.Table.{places};
+ghost use Rattle.station.specs.Station.{turnoutsAlone};
 use super::BAD_ROUTE;
 use super::BAD_TURNOUT;
 use super::Finding;
 use super::Sheet;
-use super::partners;
+use groups::carriers::ties;
+use groups::is_whole;
 use station::Route;
 use station::Station;
 use station::Turnout;
 use station::names;
-use station::observe::is_whole;
+use station::observe::at_most_64;
 use station::observe::no_routes;
 use station::observe::no_turnouts;
-use station::observe::tied_with;
 use station::route_count;
 use station::turnout_count;
 
@@ -51,15 +58,39 @@ fn sets_kept(p: usize, r: Route) -> bool
         & sets::is_within(r.reverse, names(r))
 }
 
-// Whether turnout n, its record t and the turnouts tied to it are as the route r wants them (SHEET-6, SHEET-8,
-// SHEET-9).
-fn member_kept(r: Route, n: usize, t: Turnout, group: u64) -> bool
-    ensures { λ b. ⌜ b ≡ memberKept r n t group ⌝ }
+// A group if it is one of two, else nothing (SHEET-9).
+fn pair_in(group: u64) -> u64
+    ensures { λ r. ⌜ r ≡ pairIn group ⌝ }
+{
+    if sets::how_many(group) == 2 {
+        return group;
+    }
+    0
+}
+
+// The groups of two among the first p of these.
+fn pairs_in(p: u8, groups: [u64; 64]) -> [u64; 64]
+    ensures { λ r. ⌜ r ≡ places (λ k. pairIn (getD groups k 0)) p 0 ⌝ }
+{
+    let n = at_most_64(p);
+    let mut out: [u64; 64] = [0; 64];
+    let mut i: usize = 0;
+    while i < n {
+        out[i] = pair_in(groups[i]);
+        i += 1;
+    }
+    out
+}
+
+// Whether turnout n, its record t and the turnouts tied to it, of which a pair counts for the position, are as the
+// route r wants them (SHEET-6, SHEET-8, SHEET-9).
+fn member_kept(r: Route, n: usize, t: Turnout, group: u64, pair: u64) -> bool
+    ensures { λ b. ⌜ b ≡ memberBy r n t group pair ⌝ }
 {
     let named = names(r);
     (!sets::contains(named, n) | (t.zone == r.zone))
         & (!sets::contains(r.flank, n) | sets::is_within(group, r.flank))
-        & is_whole(group & named, r.reverse)
+        & is_whole(pair & named, r.reverse)
 }
 
 // The index of the first bad route; the count if all are good (SHEET-11, FORM-7).
@@ -68,6 +99,9 @@ fn first_bad_route(st: Station) -> usize
 {
     let p = turnout_count(st);
     let n = route_count(st);
+    let ts = st.turnout;
+    let tied = ties(st.turnouts, ts);
+    let pairs = pairs_in(st.turnouts, tied);
     let mut i: usize = 0;
     'routes: while i < n {
         let r = st.route[i];
@@ -76,8 +110,8 @@ fn first_bad_route(st: Station) -> usize
         }
         let mut k: usize = 0;
         while k < p {
-            let t = st.turnout[k];
-            if !member_kept(r, k, t, tied_with(p, k, t.partner)) {
+            let t = ts[k];
+            if !member_kept(r, k, t, tied[k], pairs[k]) {
                 break 'routes;
             }
             k += 1;
@@ -105,7 +139,7 @@ pub fn refused(code: u8, index: u8) -> Sheet
 }
 
 // The finding on a station whose turnouts are good: its first bad route.
-fn judge_routes(st: Station) -> Finding
+pub fn judge_routes(st: Station) -> Finding
     ensures { λ r. ⌜ r ≡ findingOf (routesJudged st) ⌝ }
 {
     let r = first_bad_route(st);
@@ -118,16 +152,48 @@ fn judge_routes(st: Station) -> Finding
     Finding { code: 0, index: 0 }
 }
 
-// The finding on a station: its first bad record.
-pub fn judge(st: Station) -> Finding
-    ensures { λ r. ⌜ r ≡ findingOf (judged st) ⌝ }
+// The index of the first bad one of p turnouts with these records, of z zones, by the version of their sheet.
+fn first_bad_turnout(version: u16, p: u8, z: u8, ts: [Turnout; 64]) -> usize
+    ensures { λ r. ⌜ r ≡ badTurnoutBy version (turnoutsAlone p z ts) ⌝ }
 {
-    let t = partners::first_bad_turnout(st);
-    if t < turnout_count(st) {
+    if version == 1 {
+        return partner_records::first_bad_turnout(p, z, ts);
+    }
+    group_records::first_bad_turnout(p, z, ts)
+}
+
+// The finding on these turnouts: the first bad one (SHEET-11).
+pub fn judge_turnouts(version: u16, p: u8, z: u8, ts: [Turnout; 64]) -> Finding
+    ensures { λ r. ⌜ r ≡ turnoutsFound version (turnoutsAlone p z ts) ⌝ }
+{
+    let t = first_bad_turnout(version, p, z, ts);
+    if t < at_most_64(p) {
         return Finding {
             code: BAD_TURNOUT,
             index: t as u8,
         };
+    }
+    Finding { code: 0, index: 0 }
+}
+
+// The records of p turnouts with their groups' numbers, by the version of their sheet (SHEET-14).
+pub fn grouped_turnouts(version: u16, p: u8, ts: [Turnout; 64]) -> [Turnout; 64]
+    ensures { λ r. ⌜ r ≡ meant version (turnoutsAlone p 0 ts) .turnout ⌝ }
+{
+    if version == 1 {
+        return partner_records::renumber(p, ts);
+    }
+    ts
+}
+
+// The finding on a station as one of version 2: its first bad record.
+pub fn judge(st: Station) -> Finding
+    ensures { λ r. ⌜ r ≡ findingOf (judged st) ⌝ }
+{
+    let ts = st.turnout;
+    let found = judge_turnouts(2, st.turnouts, st.zones, ts);
+    if found.code != 0 {
+        return found;
     }
     judge_routes(st)
 }

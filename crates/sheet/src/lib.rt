@@ -1,11 +1,10 @@
-// The reader of station sheets (SHEET-1 to SHEET-12 of docs/RULES.md). The rules of judging and reading are in
-// specs/Sheet.antt, those of the bytes in the crate `layout`. proofs/Accepted.antt has what an accepted sheet
-// guarantees of its station.
+// The reader of station sheets of both versions (SHEET-1 to SHEET-14 of docs/RULES.md). The rules of routes and of
+// reading are in specs/Sheet.antt, those of turnout records in the crates `group_records` and `partner_records`, those
+// of the bytes in `layout`. specs/Accepted.antt has what an accepted sheet guarantees of its station.
 ghost use mathlib.Core.Path.{_≡_};
 ghost use Rattle.sheet.specs.Sheet.{readSheet};
 
 pub mod judge;
-mod partners;
 
 // The numbers that refuse a sheet by a record; those of its header and its length are in the crate `layout`.
 pub const BAD_TURNOUT: u8 = 5;
@@ -27,7 +26,7 @@ pub struct Finding {
     pub index: u8,
 }
 
-// Reads a sheet.
+// Reads a sheet of either version.
 pub fn read_sheet(s: &[u8]) -> Sheet
     ensures { λ r. ⌜ r ≡ readSheet (now (s .entry)) ⌝ }
 {
@@ -35,10 +34,18 @@ pub fn read_sheet(s: &[u8]) -> Sheet
     if code != 0 {
         return judge::refused(code, 0);
     }
-    let station = layout::station_in(s);
-    let found = judge::judge(station);
+    let version = layout::version_of(s);
+    let mut station = layout::station_in(s);
+    let old = station.turnout;
+    let found = judge::judge_turnouts(version, station.turnouts, station.zones, old);
     if found.code != 0 {
         return judge::refused(found.code, found.index);
+    }
+    let numbered = judge::grouped_turnouts(version, station.turnouts, old);
+    station.turnout = numbered;
+    let routes = judge::judge_routes(station);
+    if routes.code != 0 {
+        return judge::refused(routes.code, routes.index);
     }
     Sheet {
         code: 0,

@@ -1,23 +1,10 @@
 use denote.Ref.{now}
-use mathlib.Core.Path.{_≡_, ap, _∙_}
 use borrow.Author.Tests.{eq-eqb, ne-eqb}
-use Rattle.station.specs.declared.Station.{Station}
-use Rattle.layout.specs.Layout.{stationIn}
-use Rattle.sheet.specs.declared.Finding.{Finding}
-use Rattle.sheet.specs.Sheet.{findingOf, judged, readSheet}
-use Rattle.sheet.proofs.Judging.{by-finding}
+use Rattle.sheet.specs.Sheet.{readSheet}
+use Rattle.sheet.proofs.Reading.{after-turnouts, after-routes}
 use borrow.Author.Needs.{needs}
 use Rattle.sheet.proofs.read_sheet.Statement.{statement}
 use Rattle.sheet.proofs.read_sheet.Tie as tie
-
--- what was found of the station that stands in the bytes
-finding :
-    (c : tie.After-judge) →
-    c .judge .result
-    ≡ findingOf (judged (stationIn (now (c .before .before .before .before .before .args .s))))
-finding c =
-    c .judge .ensures
-    ∙ ap (λ (st : Station). findingOf (judged st)) (c .before .station-in .ensures)
 
 returns : tie.Need-returns
 unfolding readSheet
@@ -25,37 +12,66 @@ returns c =
     let header = c .before .before .header-code in
     rw (c .refused .ensures, ← header .ensures, ne-eqb (header .result) 0 (c .before .if1 .taken))
 
+-- a bad turnout
 returns-2 : tie.Need-returns-2
-unfolding readSheet
 returns-2 c =
-    let s = now (c .before .before .before .before .before .before .before .before .args .s) in
-    let header = c .before .before .before .before .before .before .header-code in
-    let found = c .before .before .before .judge .result in
-    let told = finding (c .before .before .before) in
+    let turnouts = c .before .before .before in
+    let found = turnouts .judge-turnouts in
+    let station = turnouts .before .before .station-in in
+    let version = turnouts .before .before .before .version-of in
+    let good = turnouts .before .before .before .before .if1 .left in
+    let header = turnouts .before .before .before .before .before .header-code in
+    let s = now (turnouts .before .before .before .before .before .before .before .args .s) in
     rw (
       c .refused2 .ensures,
-      ← header .ensures,
-      eq-eqb (header .result) 0 (c .before .before .before .before .before .if1 .left),
-      by-finding (stationIn s),
-      ← ap (λ (f : Finding). f .code) told,
-      ← ap (λ (f : Finding). f .index) told,
-      ne-eqb (found .code) 0 (c .before .if2 .taken),
+      after-turnouts s (header .result) (version .result) (station .result) (found .result)
+          (header .ensures) good (version .ensures) (station .ensures) (found .ensures),
+      ne-eqb (found .result .code) 0 (c .before .if2 .taken),
     )
 
+-- good turnouts and a bad route
 returns-3 : tie.Need-returns-3
-unfolding readSheet
 returns-3 c =
-    let s = now (c .before .before .before .before .before .before .before .args .s) in
-    let header = c .before .before .before .before .before .header-code in
-    let found = c .before .before .judge .result in
-    let told = finding (c .before .before) in
+    let routes = c .before .before .before in
+    let numbered = routes .before .grouped-turnouts in
+    let turnouts = routes .before .before .before .before in
+    let found = turnouts .judge-turnouts in
+    let station = turnouts .before .before .station-in in
+    let version = turnouts .before .before .before .version-of in
+    let good = turnouts .before .before .before .before .if1 .left in
+    let header = turnouts .before .before .before .before .before .header-code in
+    let s = now (turnouts .before .before .before .before .before .before .before .args .s) in
+    let route = routes .judge-routes in
     rw (
-      c .before .before .before .station-in .ensures,
-      ← header .ensures,
-      eq-eqb (header .result) 0 (c .before .before .before .before .if1 .left),
-      by-finding (stationIn s),
-      ← ap (λ (f : Finding). f .code) told,
-      eq-eqb (found .code) 0 (c .if2 .left),
+      c .refused3 .ensures,
+      after-turnouts s (header .result) (version .result) (station .result) (found .result)
+          (header .ensures) good (version .ensures) (station .ensures) (found .ensures),
+      eq-eqb (found .result .code) 0 (routes .before .before .if2 .left),
+      after-routes (version .result) (station .result) (numbered .result) (route .result)
+          (numbered .ensures) (route .ensures),
+      ne-eqb (route .result .code) 0 (c .before .if3 .taken),
+    )
+
+-- all good
+returns-4 : tie.Need-returns-4
+returns-4 c =
+    let routes = c .before .before in
+    let numbered = routes .before .grouped-turnouts in
+    let turnouts = routes .before .before .before .before in
+    let found = turnouts .judge-turnouts in
+    let station = turnouts .before .before .station-in in
+    let version = turnouts .before .before .before .version-of in
+    let good = turnouts .before .before .before .before .if1 .left in
+    let header = turnouts .before .before .before .before .before .header-code in
+    let s = now (turnouts .before .before .before .before .before .before .before .args .s) in
+    let route = routes .judge-routes in
+    rw (
+      after-turnouts s (header .result) (version .result) (station .result) (found .result)
+          (header .ensures) good (version .ensures) (station .ensures) (found .ensures),
+      eq-eqb (found .result .code) 0 (routes .before .before .if2 .left),
+      after-routes (version .result) (station .result) (numbered .result) (route .result)
+          (numbered .ensures) (route .ensures),
+      eq-eqb (route .result .code) 0 (c .if3 .left),
     )
 
 pub read-sheet-spec : {M : Type 1} → statement M
@@ -68,5 +84,10 @@ read-sheet-spec =
     (λ c κs. search needs)
     (λ c κs. search needs)
     (λ c κs. search needs)
+    (λ c κs. search needs)
     returns-2
-    returns-3)
+    (λ c κs. search needs)
+    (λ c κs. search needs)
+    (λ c κs. search needs)
+    returns-3
+    returns-4)

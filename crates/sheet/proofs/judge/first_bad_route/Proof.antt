@@ -1,17 +1,23 @@
 -- Both invariants say that what is still to be found is the answer; the label leaves both loops
 -- with the index.
-use mathlib.Core.Path.{_≡_, sym, ap, _∙_}
+use mathlib.Core.Path.{_≡_, sym, ap, ap₂, _∙_}
 use mathlib.Core.Bool.{Bool, true, false, not, _&&_}
-use Prim.Native.Nat.{ℕ, _-_, _≤_, min}
+use mathlib.Core.List.{List}
+use Prim.Native.Nat.{ℕ, _-_, _≤_, _<_, min}
 use native.Mathlib.Nat.{sub-zero}
 use native.Mathlib.Omega.{arith}
 use borrow.Author.Tests.{not-true, not-false}
+use lib.ListN.{getD}
 use Rattle.sets.specs.Range.{allFrom, firstFrom}
+use Rattle.sets.specs.Table.{places}
 use Rattle.sets.proofs.Ranges.{all-next, all-end, first-next, first-end}
+use Rattle.sets.proofs.Tables.{places-below}
 use Rattle.station.specs.declared.Station.{Station}
 use Rattle.station.specs.declared.Route.{Route}
-use Rattle.station.specs.Station.{turnoutAt, routeAt, turnoutCount, routeCount, tied}
-use Rattle.sheet.specs.Sheet.{setsKept, memberKept, goodRoute, badRoute}
+use Rattle.station.specs.Station.{turnoutAt, routeAt, turnoutCount, routeCount}
+use Rattle.groups.specs.Groups.{tied, tiedAmong}
+use Rattle.sheet.specs.Sheet.{setsKept, memberKept, memberBy, pairIn, goodRoute, badRoute}
+use Rattle.sheet.proofs.ByPair.{by-pair}
 use borrow.Author.Needs.{needs}
 use Rattle.sheet.proofs.judge.first_bad_route.Statement.{statement}
 use Rattle.sheet.proofs.judge.first_bad_route.Tie as tie
@@ -28,16 +34,16 @@ abbrev bad : ℕ → Station → ℕ → Bool
 bad p = badFor (min p 64) p
 
 abbrev Inv-loop : tie.InvT-loop
-Inv-loop st p n i r k₀ k = (k ≤ p) × (allFrom (test st r) 0 p ≡ allFrom (test st r) k (p - k))
+Inv-loop st p n ts ties pairs i r k₀ k = (k ≤ p) × (allFrom (test st r) 0 p ≡ allFrom (test st r) k (p - k))
 
 abbrev μ-loop : tie.MeasureT-loop
-μ-loop st p n i r k₀ k = p - k
+μ-loop st p n ts ties pairs i r k₀ k = p - k
 
 abbrev Inv-routes : tie.InvT-routes
-Inv-routes st p n i₀ i = (i ≤ n) × (firstFrom (bad p st) 0 n ≡ firstFrom (bad p st) i (n - i))
+Inv-routes st p n ts ties pairs i₀ i = (i ≤ n) × (firstFrom (bad p st) 0 n ≡ firstFrom (bad p st) i (n - i))
 
 abbrev μ-routes : tie.MeasureT-routes
-μ-routes st p n i₀ i = n - i
+μ-routes st p n ts ties pairs i₀ i = n - i
 
 -- the rule, by the numbers that the code has
 found :
@@ -48,22 +54,41 @@ found st p n ep en =
     let limit : turnoutCount st ≡ min p 64 = omega arith in
     ap (λ (m : ℕ). firstFrom (badFor m (turnoutCount st) st) 0 (routeCount st)) limit ∙ rw (ep, en)
 
--- what the test of a turnout says
+-- the test of a turnout, by the tables that the code has
+by-tables :
+    (st : Station) (r : Route) (k : ℕ) (ties pairs : List ℕ)
+    → ties ≡ places (tiedAmong (st .turnouts) (st .turnout)) (st .turnouts) 0
+    → pairs ≡ places (λ j. pairIn (getD ties j 0)) (st .turnouts) 0 → k < turnoutCount st
+    → memberBy r k (turnoutAt st k) (getD ties k 0) (getD pairs k 0) ≡ test st r k
+by-tables st r k ties pairs et ep below =
+    let group : getD ties k 0 ≡ tied st k =
+    ap (λ (l : List ℕ). getD l k 0) et
+    ∙ places-below (tiedAmong (st .turnouts) (st .turnout)) (st .turnouts) 0 k below in
+    let pair : getD pairs k 0 ≡ pairIn (tied st k) =
+    ap (λ (l : List ℕ). getD l k 0) ep
+    ∙ places-below (λ j. pairIn (getD ties j 0)) (st .turnouts) 0 k below
+    ∙ ap pairIn group in
+    ap₂ (λ (g q : ℕ). memberBy r k (turnoutAt st k) g q) group pair
+    ∙ by-pair r k (turnoutAt st k) (tied st k)
+
+-- what it says
 tested :
     (c : tie.After-member-kept Inv-loop μ-loop Inv-routes μ-routes)
-    → let turn = c .before .before .before .before in
+    → let turn = c .before .before .before in
     let route = turn .before .before .before .before .before in
-    let st = route .before .before .before .args .t1 in
+    let st = route .before .before .before .before .before .before .args .t1 in
     c .member-kept .result ≡ test st (routeAt st (route .routes .i)) (turn .loop .k)
-unfolding tied
 tested c =
-    let turn = c .before .before .before .before in
+    let turn = c .before .before .before in
     let route = turn .before .before .before .before .before in
-    rw (
-      c .member-kept .ensures,
-      c .before .tied-with .ensures,
-      route .before .before .turnout-count .ensures,
-    )
+    let st = route .before .before .before .before .before .before .args .t1 in
+    let more = c .before .before .loop-test .taken in
+    let limit = route .before .before .before .before .before .turnout-count .ensures in
+    let ties = route .before .before .ties in
+    let pairs = route .before .pairs-in in
+    c .member-kept .ensures
+    ∙ by-tables st (routeAt st (route .routes .i)) (turn .loop .k) (ties .result) (pairs .result)
+    (ties .ensures) (pairs .ensures) (omega (arith, more, limit))
 
 routes-holds : tie.Need-routes-holds Inv-loop μ-loop Inv-routes μ-routes
 routes-holds c =
@@ -75,15 +100,15 @@ loop-holds c =
 
 loop-again : tie.Need-loop-again Inv-loop μ-loop Inv-routes μ-routes
 loop-again c =
-    let turn = c .before .before .before .before .before in
+    let turn = c .before .before .before .before in
     let route = turn .before .before .before .before .before in
-    let st = route .before .before .before .args .t1 in
-    let p = route .before .before .turnout-count .result in
-    let n = route .before .route-count .result in
+    let st = route .before .before .before .before .before .before .args .t1 in
+    let p = route .before .before .before .before .before .turnout-count .result in
+    let n = route .before .before .before .before .route-count .result in
     let i = route .routes .i in
     let inv = route .routes .inv in
     let k = turn .loop .k in
-    let more = c .before .before .before .before .loop-test .taken in
+    let more = c .before .before .before .loop-test .taken in
     let passes : test st (routeAt st i) k ≡ true =
     sym (tested (c .before)) ∙ not-false (c .before .member-kept .result) (c .if2 .left) in (
       search needs,
@@ -94,10 +119,10 @@ loop-again c =
 
 routes-again : tie.Need-routes-again Inv-loop μ-loop Inv-routes μ-routes
 routes-again c =
-    let st = c .before .before .before .before .before .before .before .before .before .args .t1 in
+    let st = c .before .before .before .before .before .before .before .before .before .before .before .before .args .t1 in
     let p =
-    c .before .before .before .before .before .before .before .before .turnout-count .result in
-    let n = c .before .before .before .before .before .before .before .route-count .result in
+    c .before .before .before .before .before .before .before .before .before .before .before .turnout-count .result in
+    let n = c .before .before .before .before .before .before .before .before .before .before .route-count .result in
     let i = c .before .before .before .before .before .before .routes .i in
     let inv = c .before .before .before .before .before .before .routes .inv in
     let k = c .before .loop .k in
@@ -119,9 +144,9 @@ routes-again c =
 
 returns : tie.Need-returns Inv-loop μ-loop Inv-routes μ-routes
 returns c =
-    let turnouts = c .before .before .before .turnout-count in
-    let routes = c .before .before .route-count in
-    let st = c .before .before .before .before .args .t1 in
+    let turnouts = c .before .before .before .before .before .before .turnout-count in
+    let routes = c .before .before .before .before .before .route-count in
+    let st = c .before .before .before .before .before .before .before .args .t1 in
     let p = turnouts .result in
     let n = routes .result in
     let i = c .before .routes .i in
@@ -133,9 +158,9 @@ returns c =
 
 returns-2 : tie.Need-returns-2 Inv-loop μ-loop Inv-routes μ-routes
 returns-2 c =
-    let turnouts = c .before .before .before .before .before .before .turnout-count in
-    let routes = c .before .before .before .before .before .route-count in
-    let st = c .before .before .before .before .before .before .before .args .t1 in
+    let turnouts = c .before .before .before .before .before .before .before .before .before .turnout-count in
+    let routes = c .before .before .before .before .before .before .before .before .route-count in
+    let st = c .before .before .before .before .before .before .before .before .before .before .args .t1 in
     let p = turnouts .result in
     let n = routes .result in
     let i = c .before .before .before .before .routes .i in
@@ -149,11 +174,11 @@ returns-2 c =
 
 returns-3 : tie.Need-returns-3 Inv-loop μ-loop Inv-routes μ-routes
 returns-3 c =
-    let turn = c .before .before .before .before .before in
+    let turn = c .before .before .before .before in
     let route = turn .before .before .before .before .before in
-    let turnouts = route .before .before .turnout-count in
-    let routes = route .before .route-count in
-    let st = route .before .before .before .args .t1 in
+    let turnouts = route .before .before .before .before .before .turnout-count in
+    let routes = route .before .before .before .before .route-count in
+    let st = route .before .before .before .before .before .before .args .t1 in
     let p = turnouts .result in
     let n = routes .result in
     let i = route .routes .i in
@@ -165,7 +190,7 @@ returns-3 c =
     sym (tested (c .before)) ∙ not-true (c .before .member-kept .result) (c .if2 .taken) in
     let some =
     turn .loop .inv .1
-    ∙ all-next (test st (routeAt st i)) k p (c .before .before .before .before .loop-test .taken) in
+    ∙ all-next (test st (routeAt st i)) k p (c .before .before .before .loop-test .taken) in
     let now-bad : bad p st i ≡ true = rw (sets, some, fails) in
     let start = found st p n (turnouts .ensures) (routes .ensures) in
     let more = turn .before .before .before .before .routes-test .taken in
@@ -181,6 +206,8 @@ first-bad-route-spec =
     μ-routes
     (λ c κs. search needs)
     (λ c κs. search needs)
+    (λ c κs. search needs)
+    (λ c κs. search needs)
     routes-holds
     (λ c. search needs)
     (λ c. search needs)
@@ -188,7 +215,10 @@ first-bad-route-spec =
     loop-holds
     (λ c. search needs)
     (λ c. search needs)
-    (λ c κs. search needs)
+    (λ c. search needs)
+    (λ c. search needs)
+    (λ c. search needs)
+    (λ c. search needs)
     (λ c κs. search needs)
     (λ c. search needs)
     (λ c. search needs)

@@ -6,13 +6,15 @@ use mathlib.Core.Path.{_≡_, refl, ap}
 use Prim.Native.Nat.{ℕ, _≤_, _<_}
 use native.Mathlib.Omega.{arith}
 use borrow.Author.Tests.{leb-true, leb-false, lt-leb, le-ltb, ltb-false}
-use lib.Dec.{ltb, leb}
+use lib.Dec.{eqb, ltb, leb}
 use lib.ListN.{length}
 use Rattle.layout.specs.Layout.{hasMark, version, versionKept, countP, countR, countZ, withinLimits}
 use Rattle.layout.specs.Layout.{countsKept, lengthNumber, headerNumber, stationIn}
 use Rattle.layout.proofs.Header.{header-most}
+use Rattle.partner_records.specs.PartnerRecords.{renumbered}
 use Rattle.sheet.specs.Sheet.{refusedSheet, afterHeader, readSheet}
-use Rattle.sheet.proofs.Accepted.{counts-in-range, counts-kept, headed, station-of}
+use Rattle.layout.proofs.Counts.{counts-in-range, counts-kept}
+use Rattle.sheet.proofs.Accepted.{headed, station-of}
 use Rattle.sheet.proofs.Judging.{code-most}
 use Rattle.panel.specs.Panel.{withinPanel, panelNumber, readPanelSheet}
 use Rattle.panel.specs.Laws.{OverLimits, PanelLaws, EachRead}
@@ -115,15 +117,23 @@ module _ (s : List ℕ) where
         never-by-the-desk = never-by-the-desk;
       }
 
-  -- an accepted station is the one in the bytes, whose counts are within the limits
+  -- an accepted station, of either version, has the counts of its bytes, which are within the limits
   station-within :
       Alike s → readSheet s .code ≡ 0 →
       (readSheet s .station .turnouts ≤ 16) × (readSheet s .station .routes ≤ 8)
-  unfolding stationIn
+  unfolding stationIn renumbered
   station-within a h =
       let within = a .within (headed s h .0) in
       let both = and-eq-true-iff (leb (countP s) 16) (leb (countR s) 8) .0 within in
-      rw (station-of s h) (leb-true (countP s) 16 (both .0), leb-true (countR s) 8 (both .1))
+      rw (station-of s h)
+      (go (eqb (version s) 1) (leb-true (countP s) 16 (both .0)) (leb-true (countR s) 8 (both .1)))
+    where
+      go :
+          (one : Bool) → countP s ≤ 16 → countR s ≤ 8 →
+          (cond one (renumbered (stationIn s)) (stationIn s) .turnouts ≤ 16)
+          × (cond one (renumbered (stationIn s)) (stationIn s) .routes ≤ 8)
+      go true p r = (p, r)
+      go false p r = (p, r)
 
   -- the laws where the number is the desk's
   laws-alike : Alike s → PanelLaws s (readPanelSheet s) (readSheet s)

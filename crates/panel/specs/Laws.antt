@@ -8,7 +8,7 @@ use Prim.Native.Nat.{ℕ, _≤_, _<_}
 use lib.ListN.{length}
 use Rattle.layout.specs.Layout.{hasMark, version, versionKept, countP, countR, stationIn}
 use Rattle.sheet.specs.declared.Sheet.{Sheet}
-use Rattle.sheet.specs.Accepted.{GoodCounts}
+use Rattle.layout.specs.Counts.{GoodCounts}
 use Rattle.sheet.specs.Sheet.{readSheet, refusedSheet}
 use Rattle.panel.specs.Panel.{readPanelSheet}
 

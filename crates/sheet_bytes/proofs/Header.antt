@@ -67,7 +67,6 @@ header-kept st counts =
 -- what bytes have whose header has no fault
 pub record Faultless (s : List ℕ) : Type 0 where
   pub mark : hasMark s ≡ true
-  pub first-version : version s ≡ 1
   pub p-limit : countP s ≤ 64
   pub r-limit : countR s ≤ 64
   pub whole : length s ≡ sheetLength (countP s) (countR s)
@@ -80,17 +79,21 @@ faultless s h =
     let range = in-range p r (countZ s) (kept .2) in
     record {
       mark = kept .0;
-      first-version = eqb-true (version s) 1 (kept .1);
       p-limit = range .1;
       r-limit = range .2;
       whole = eqb-true (length s) (sheetLength p r) (kept .3);
     }
 
--- the header that would be written is the one that stands there
+-- a sheet that is written is of version 2
+pub written-version : (st : Station) → version (sheetBytes st) ≡ 2
+unfolding sheetBytes
+written-version st = refl
+
+-- the header that would be written is the one that stands there, if it is of version 2
 pub header-written :
-    (s : List ℕ) → Bytes s → Faultless s →
+    (s : List ℕ) → Bytes s → Faultless s → version s ≡ 2 →
     headerBytes (countP s) (countR s) (countZ s) ≡ bytesAt s 0 8
-header-written s byte good =
+header-written s byte good second =
     let is-s = eqb (getD s 0 0) 83 in
     let is-p = eqb (getD s 1 0) 80 in
     let is-t = eqb (getD s 2 0) 84 in
@@ -99,6 +102,6 @@ header-written s byte good =
     let letter-s = sym (eqb-true (getD s 0 0) 83 (two .0)) in
     let letter-p = sym (eqb-true (getD s 1 0) 80 (two .1)) in
     let letter-t = sym (eqb-true (getD s 2 0) 84 (all .1)) in
-    let one = ap (beBytes 2) (sym (good .first-version)) ∙ bytes-number 2 s 3 byte in
+    let two-bytes = ap (beBytes 2) (sym second) ∙ bytes-number 2 s 3 byte in
     let counts = countP s ∷ countR s ∷ countZ s ∷ [] in
-    λ i. letter-s i ∷ letter-p i ∷ letter-t i ∷ (one i ++ counts)
+    λ i. letter-s i ∷ letter-p i ∷ letter-t i ∷ (two-bytes i ++ counts)

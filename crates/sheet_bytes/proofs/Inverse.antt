@@ -1,6 +1,6 @@
 -- A station and the bytes of its sheet are each found again from the other. A station whose
--- records past its counts are empty is the one that stands in its sheet; bytes whose header has no
--- fault are the sheet of the station that stands in them.
+-- records past its counts are empty is the one that stands in its sheet; bytes of version 2
+-- whose header has no fault are the sheet of the station that stands in them.
 use mathlib.Core.Bool.{Bool, true, false, cond}
 use mathlib.Core.Path.{_≡_, refl, sym, ap, ap₂, _∙_}
 use mathlib.Core.List.{List, [], _++_, append-nil}
@@ -19,7 +19,7 @@ use Rattle.station.specs.declared.Turnout.{Turnout}
 use Rattle.station.specs.declared.Route.{Route}
 use Rattle.station.specs.declared.Station.{Station}
 use Rattle.station.specs.Station.{emptyTurnout, emptyRoute, turnoutAt, routeAt}
-use Rattle.layout.specs.Layout.{countP, countR, headerNumber, stationIn}
+use Rattle.layout.specs.Layout.{version, countP, countR, headerNumber, stationIn}
 use Rattle.layout.specs.Layout.{turnoutIn, turnoutPlace, routeIn, routePlace}
 use Rattle.sheet_bytes.specs.SheetBytes.{turnoutBytes, routeBytes, recordsFrom}
 use Rattle.sheet_bytes.specs.SheetBytes.{turnoutRecords, routeRecords, sheetBytes}
@@ -124,12 +124,13 @@ station-of-bytes st fits p-limit r-limit past-turnouts past-routes =
         s (8 + 3 * p) (min r 64) [] (after-turnouts st p-limit)
         n (omega arith) (routeAt st n) (route-read (routeAt st n) (fits .route n))
 
--- bytes whose header has no fault, read as a station and written again
-pub bytes-of-station : (s : List ℕ) → Bytes s → headerNumber s ≡ 0 → sheetBytes (stationIn s) ≡ s
+-- bytes of version 2 whose header has no fault, read as a station and written again
+pub bytes-of-station :
+    (s : List ℕ) → Bytes s → headerNumber s ≡ 0 → version s ≡ 2 → sheetBytes (stationIn s) ≡ s
 unfolding sheetBytes stationIn
-bytes-of-station s byte good =
+bytes-of-station s byte good second =
     let kept = faultless s good in
-    let header = header-written s byte kept in
+    let header = header-written s byte kept second in
     let turnouts = same-turnouts (kept .p-limit) in
     let routes = same-routes (kept .r-limit) in
     let whole : 8 + (3 * p + 33 * r) ≡ length s =

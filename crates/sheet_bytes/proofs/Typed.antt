@@ -55,12 +55,12 @@ header-bytes p r z p-fits r-fits z-fits =
     let mark = three 83 80 84 (lit< tt) (lit< tt) (lit< tt) in
     let counts = p ∷ r ∷ z ∷ [] in
     let counts-fit = three p r z p-fits r-fits z-fits in
-    let version-fits = joined (beBytes 2 1) counts (number-bytes 2 1) counts-fit in
-    joined (83 ∷ 80 ∷ 84 ∷ []) (beBytes 2 1 ++ counts) mark version-fits
+    let version-fits = joined (beBytes 2 2) counts (number-bytes 2 2) counts-fit in
+    joined (83 ∷ 80 ∷ 84 ∷ []) (beBytes 2 2 ++ counts) mark version-fits
 
 turnout-bytes : (t : Turnout) → TypedTurnout t → Bytes (turnoutBytes t)
 turnout-bytes t fits =
-    three (t .zone) (t .partner) (t .drive) (fits .zone) (fits .partner) (fits .drive)
+    three (t .zone) (t .group) (t .drive) (fits .zone) (fits .group) (fits .drive)
 
 route-bytes : (r : Route) → TypedRoute r → Bytes (routeBytes r)
 route-bytes r fits =
@@ -100,7 +100,7 @@ bytes-of-sheet st fits =
         (λ n. route-bytes (routeAt st n) (fits .route n)) 0 (min (st .routes) 64)
 
 -- what holds of each record that is read, and of the empty one, holds at every place of the table
-each-place :
+pub each-place :
     {A : Type 0} (P : A → Type 0) (f : ℕ → A) (p : ℕ) (e : A) → ((n : ℕ) → P (f n)) → P e →
     (n : ℕ) → P (getD (places f p e) n e)
 each-place P f p e filled empty n = go (ltb n 64) refl (ltb n p) refl
@@ -116,7 +116,7 @@ each-place P f p e filled empty n = go (ltb n 64) refl (ltb n p) refl
 
 turnout-typed : (s : List ℕ) → Bytes s → (at : ℕ) → TypedTurnout (turnoutIn s at)
 turnout-typed s byte at =
-    record { zone = byte at; partner = byte (at + 1); drive = byte (at + 2) }
+    record { zone = byte at; group = byte (at + 1); drive = byte (at + 2) }
 
 route-typed : (s : List ℕ) → Bytes s → (at : ℕ) → TypedRoute (routeIn s at)
 route-typed s byte at = record {
@@ -127,8 +127,8 @@ route-typed s byte at = record {
   reverse = number-lt 8 s (at + 25) byte;
 }
 
-no-turnout-typed : TypedTurnout emptyTurnout
-no-turnout-typed = record { zone = lit< tt; partner = lit< tt; drive = lit< tt }
+pub no-turnout-typed : TypedTurnout emptyTurnout
+no-turnout-typed = record { zone = lit< tt; group = lit< tt; drive = lit< tt }
 
 no-route-typed : TypedRoute emptyRoute
 no-route-typed = record {

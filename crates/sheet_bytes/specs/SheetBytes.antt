@@ -9,14 +9,14 @@ use Rattle.station.specs.declared.Route.{Route}
 use Rattle.station.specs.declared.Station.{Station}
 use Rattle.station.specs.Station.{emptyTurnout, emptyRoute}
 
--- SHEET-1: "Header, 8 bytes: the letters SPT, version (16 bits, 1), counts P of turnouts .., R of
--- routes .., Z of zones .., a byte each."
+-- SHEET-1: "Header, 8 bytes: the letters SPT, version (16 bits, ..), counts P of turnouts .., R of
+-- routes .., Z of zones .., a byte each." WRITE-1: "The writer writes version 2"
 abbrev pub headerBytes : ℕ → ℕ → ℕ → List ℕ
-headerBytes p r z = 83 ∷ 80 ∷ 84 ∷ (beBytes 2 1 ++ (p ∷ r ∷ z ∷ []))
+headerBytes p r z = 83 ∷ 80 ∷ 84 ∷ (beBytes 2 2 ++ (p ∷ r ∷ z ∷ []))
 
--- SHEET-2: "turnout records of 3 bytes: zone ..; partner ..; drive .."
+-- SHEET-2: "turnout records of 3 bytes: zone ..; group ..; drive .."
 abbrev pub turnoutBytes : Turnout → List ℕ
-turnoutBytes t = t .zone ∷ t .partner ∷ t .drive ∷ []
+turnoutBytes t = t .zone ∷ t .group ∷ t .drive ∷ []
 
 -- SHEET-4: "routes of 33 bytes: zone, then the sets run over, flank, exit zone, reverse"
 abbrev pub routeBytes : Route → List ℕ

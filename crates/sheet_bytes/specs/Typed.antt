@@ -10,7 +10,7 @@ use Rattle.station.specs.Station.{turnoutAt, routeAt}
 
 pub record TypedTurnout (t : Turnout) : Type 0 where
   pub zone : t .zone < 256
-  pub partner : t .partner < 256
+  pub group : t .group < 256
   pub drive : t .drive < 256
 
 pub record TypedRoute (r : Route) : Type 0 where

@@ -21,7 +21,7 @@ use station::observe::at_most_64;
 const HEADER: usize = 8;
 
 // The version that is written.
-const VERSION: u16 = 1;
+const VERSION: u16 = 2;
 
 fn put_header(s: &mut [u8], p: u8, r: u8, z: u8)
     ensures { λ u. ⌜ now (s .exit) ≡ sets (now (s .entry)) 0 (headerBytes p r z) ⌝ }
@@ -40,7 +40,7 @@ fn put_turnout(s: &mut [u8], at: usize, t: Turnout)
     ensures { λ u. ⌜ now (s .exit) ≡ sets (now (s .entry)) at (turnoutBytes t) ⌝ }
 {
     bigendian::put8(s, at, t.zone);
-    bigendian::put8(s, at + 1, t.partner);
+    bigendian::put8(s, at + 1, t.group);
     bigendian::put8(s, at + 2, t.drive);
 }
 

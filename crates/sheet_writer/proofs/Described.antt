@@ -17,7 +17,8 @@ use Rattle.layout.proofs.Joined.{three, four, five}
 use Rattle.sheet.specs.declared.Sheet.{Sheet}
 use Rattle.sheet.specs.Accepted.{Passed}
 use Rattle.sheet.specs.Sheet.{judged}
-use Rattle.sheet.proofs.Accepted.{counts-in-range, counts-kept, passed, fixed}
+use Rattle.layout.proofs.Counts.{counts-in-range, counts-kept}
+use Rattle.sheet.proofs.Accepted.{passed, fixed}
 use Rattle.sheet_bytes.specs.Typed.{TypedStation}
 use Rattle.sheet_writer.specs.Past.{isZeroTurnout, isZeroRoute}
 use Rattle.sheet_writer.specs.Past.{allPast, turnoutsEnd, routesEnd}
@@ -26,11 +27,11 @@ use Rattle.sheet_writer.specs.Writer.{described}
 -- the empty records are those with every number 0
 zero-turnout : (t : Turnout) → isZeroTurnout t ≡ true → t ≡ emptyTurnout
 zero-turnout t h =
-    let each = three (eqb (t .zone) 0) (eqb (t .partner) 0) (eqb (t .drive) 0) h in
+    let each = three (eqb (t .zone) 0) (eqb (t .group) 0) (eqb (t .drive) 0) h in
     let zone = eqb-true (t .zone) 0 (each .0) in
-    let partner = eqb-true (t .partner) 0 (each .1) in
+    let group = eqb-true (t .group) 0 (each .1) in
     let drive = eqb-true (t .drive) 0 (each .2) in
-    λ i. record { zone = zone i; partner = partner i; drive = drive i }
+    λ i. record { zone = zone i; group = group i; drive = drive i }
 
 zero-route : (r : Route) → isZeroRoute r ≡ true → r ≡ emptyRoute
 zero-route r h =

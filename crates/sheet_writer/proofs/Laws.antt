@@ -1,12 +1,11 @@
 -- The laws of the writer: each sentence of WRITE-1 to WRITE-5 (docs/RULES.md), from the definition
 -- and from the two inverse laws of a sheet's bytes.
-use mathlib.Core.Bool.{Bool, true, false, false≢true}
+use mathlib.Core.Bool.{Bool, true, false, cond, false≢true}
 use mathlib.Core.List.{List, _++_}
-use mathlib.Core.Logic.{_≢_}
 use mathlib.Core.Path.{_≡_, refl, sym, ap, _∙_}
 use Prim.Native.Nat.{ℕ, _+_, _≤_, _<_}
 use native.Mathlib.Omega.{arith}
-use borrow.Author.Tests.{eqb-true, eqb-false, eq-eqb, ne-eqb}
+use borrow.Author.Tests.{eq-eqb}
 use borrow.Author.Tests.{lt-ltb, le-ltb, ltb-true, ltb-false}
 use lib.Dec.{eqb, ltb}
 use lib.ListN.{length, take, drop}
@@ -14,21 +13,23 @@ use lib.Seq.{sets, sets-eq, take-at, drop-at}
 use Rattle.bigendian.specs.BigEndian.{Bytes}
 use Rattle.bigendian.proofs.Places.{sets-whole}
 use Rattle.station.specs.declared.Station.{Station}
-use Rattle.layout.specs.Layout.{headerNumber}
+use Rattle.layout.specs.Layout.{headerNumber, version, stationIn}
 use Rattle.sheet.specs.declared.Sheet.{Sheet}
-use Rattle.sheet.specs.Sheet.{readSheet, findingOf}
-use Rattle.sheet.proofs.Accepted.{counts-kept, headed, station-of, passes, fixed}
-use Rattle.sheet.proofs.Judging.{code-most}
+use Rattle.partner_records.specs.PartnerRecords.{renumbered}
+use Rattle.sheet.specs.Sheet.{readSheet, meant}
+use Rattle.layout.proofs.Counts.{counts-kept}
+use Rattle.sheet.proofs.Accepted.{headed, station-of, accepted-whole, passes, fixed}
 use Rattle.sheet_bytes.specs.SheetBytes.{sheetBytes}
 use Rattle.sheet_bytes.specs.Typed.{TypedStation}
-use Rattle.sheet_bytes.proofs.Header.{sheet-length, header-kept}
+use Rattle.sheet_bytes.proofs.Header.{sheet-length, header-kept, written-version, faultless}
 use Rattle.sheet_bytes.proofs.Inverse.{station-of-bytes, bytes-of-station}
 use Rattle.sheet_bytes.proofs.Typed.{bytes-of-sheet}
 use Rattle.sheet_writer.specs.Writer.{described, lengthOf}
-use Rattle.sheet_writer.specs.Writer.{SheetWritten, writtenSheet, SheetCopied, copiedSheet}
+use Rattle.sheet_writer.specs.Writer.{SheetWritten, writtenSheet}
 use Rattle.sheet_writer.specs.Laws.{Describes, WriterLaws, EachWritten}
-use Rattle.sheet_writer.specs.Laws.{copyAnswer, EachWrittenAgain, EachCopied}
+use Rattle.sheet_writer.specs.Laws.{EachWrittenAgain}
 use Rattle.sheet_writer.proofs.Described.{described-passes, passed-described}
+use Rattle.sheet_writer.proofs.ReadTyped.{read-typed}
 
 -- the bytes of a described station's sheet read as that station
 read-back :
@@ -43,7 +44,8 @@ read-back st fits d =
     (h .past-turnouts) (h .past-routes) in
     record {
       bytes = bytes-of-sheet st fits;
-      reads = rw (eq-eqb (headerNumber (sheetBytes st)) 0 header, same) (fixed st h);
+      reads =
+          rw (eq-eqb (headerNumber (sheetBytes st)) 0 header, written-version st, same) (fixed st h);
     }
 
 -- a station that some sheet describes is described
@@ -59,13 +61,13 @@ module _ (st : Station) (buffer : List ℕ) where
   unfolding writtenSheet
   seven d = rw d
 
-  eight :
+  pub eight :
       described st ≡ true → length buffer < lengthOf st
       → writtenSheet st buffer ≡ record { code = 8; bytes = buffer }
   unfolding writtenSheet
   eight d short = rw (d, lt-ltb (length buffer) (lengthOf st) short)
 
-  stored :
+  pub stored :
       described st ≡ true → lengthOf st ≤ length buffer
       → writtenSheet st buffer ≡ record { code = 0; bytes = sets buffer 0 (sheetBytes st) }
   unfolding writtenSheet
@@ -92,6 +94,19 @@ length-described st fits d =
     let counts = described-passes st fits d .counts in
     sheet-length st (counts .turnouts-limit) (counts .routes-limit)
 
+-- the length of an accepted sheet is that of its station's
+length-of : (s : List ℕ) (accepted : readSheet s .code ≡ 0) → lengthOf (readSheet s .station) ≡ length s
+unfolding stationIn renumbered
+length-of s accepted =
+    let whole = faultless s (headed s accepted .0) .whole in
+    rw (station-of s accepted) (go (eqb (version s) 1) whole)
+  where
+    go :
+        (one : Bool) → length s ≡ lengthOf (stationIn s)
+        → lengthOf (cond one (renumbered (stationIn s)) (stationIn s)) ≡ length s
+    go true e = sym e
+    go false e = sym e
+
 -- by whether a sheet describes the station, and whether the buffer is long enough
 pub writer-laws : EachWritten
 writer-laws st fits buffer =
@@ -110,6 +125,7 @@ writer-laws st fits buffer =
           untouched = λ e. refl;
           accepted = λ e f. absurd (e refl);
           reads-back = λ e. absurd (omega (arith, e));
+          second-version = λ e. absurd (omega (arith, e));
           past-untouched = λ e. absurd (omega (arith, e));
         }
     go true d true q =
@@ -121,6 +137,7 @@ writer-laws st fits buffer =
           untouched = λ e. refl;
           accepted = λ e f. absurd (f refl);
           reads-back = λ e. absurd (omega (arith, e));
+          second-version = λ e. absurd (omega (arith, e));
           past-untouched = λ e. absurd (omega (arith, e));
         }
     go true d false q =
@@ -134,94 +151,65 @@ writer-laws st fits buffer =
           untouched = λ e. absurd (e refl);
           accepted = λ e f. refl;
           reads-back = λ e. rw first some;
+          second-version = λ e. rw first (written-version st);
           past-untouched = λ e. rest-part buffer (sheetBytes st) (lengthOf st) whole room;
         }
 
--- an accepted sheet: its station is described, and the station's bytes are the sheet
+-- an accepted sheet: its station is described, and written as many bytes that are read alike
 module _ (s : List ℕ) (byte : Bytes s) (accepted : readSheet s .code ≡ 0) where
-  station-described : described (readSheet s .station) ≡ true
-  station-described = passed-described (readSheet s .station) (passes s accepted)
+  abbrev st : Station
+  st = readSheet s .station
 
-  same-bytes : sheetBytes (readSheet s .station) ≡ s
-  same-bytes =
-      ap sheetBytes (station-of s accepted) ∙ bytes-of-station s byte (headed s accepted .0)
+  pub station-described : described st ≡ true
+  station-described = passed-described st (passes s accepted)
 
-  same-length : lengthOf (readSheet s .station) ≡ length s
-  same-length =
-      let st = readSheet s .station in
+  -- the sheet has the length of its station's
+  pub same-length : lengthOf st ≡ length s
+  same-length = length-of s accepted
+
+  pub again-length : length (sheetBytes st) ≡ length s
+  again-length =
       let counts = passes s accepted .counts in
-      sym (sheet-length st (counts .turnouts-limit) (counts .routes-limit)) ∙ ap length same-bytes
+      sheet-length st (counts .turnouts-limit) (counts .routes-limit) ∙ same-length
 
-  written-again :
+  -- a sheet of version 2 is its station's
+  pub same-bytes : version s ≡ 2 → sheetBytes st ≡ s
+  same-bytes second =
+      let other : meant (version s) (stationIn s) ≡ stationIn s = rw second in
+      ap sheetBytes (station-of s accepted ∙ other)
+      ∙ bytes-of-station s byte (headed s accepted .0) second
+
+  pub read-alike : readSheet (sheetBytes st) ≡ readSheet s
+  read-alike =
+      read-back st (read-typed s byte accepted) station-described .reads
+      ∙ sym (accepted-whole s accepted)
+
+  pub written-again :
       (buffer : List ℕ) → length s ≤ length buffer
-      → writtenSheet (readSheet s .station) buffer ≡ record { code = 0; bytes = sets buffer 0 s }
-  written-again buffer room =
-      stored (readSheet s .station) buffer station-described (rw same-length room)
-      ∙ ap (λ (bs : List ℕ). record { code = 0; bytes = sets buffer 0 bs }) same-bytes
+      → writtenSheet st buffer ≡ record { code = 0; bytes = sets buffer 0 (sheetBytes st) }
+  written-again buffer room = stored st buffer station-described (rw same-length room)
+
+  written-same :
+      (buffer : List ℕ) → version s ≡ 2 → length s ≤ length buffer
+      → writtenSheet st buffer ≡ record { code = 0; bytes = sets buffer 0 s }
+  written-same buffer second room =
+      written-again buffer room
+      ∙ ap (λ (bs : List ℕ). record { code = 0; bytes = sets buffer 0 bs }) (same-bytes second)
 
 pub sheet-laws : EachWrittenAgain
 sheet-laws s byte accepted buffer = record {
   byte-for-byte =
-      λ same.
-      written-again s byte accepted buffer (omega (arith, same))
+      λ second same.
+      written-same s byte accepted buffer second (omega (arith, same))
       ∙ ap (λ (bs : List ℕ). record { code = 0; bytes = bs }) (sets-whole buffer s (sym same));
-  at-the-start = written-again s byte accepted buffer;
+  at-the-start = written-same s byte accepted buffer;
+  written = λ room. ap (λ (w : SheetWritten). w .code) (written-again s byte accepted buffer room);
+  reads-alike =
+      λ room.
+      let st = readSheet s .station in
+      let first = first-part buffer (sheetBytes st) (length s) (again-length s byte accepted) room in
+      ap (λ (w : SheetWritten). readSheet (take (length s) (w .bytes)))
+      (written-again s byte accepted buffer room)
+      ∙ ap readSheet first
+      ∙ read-alike s byte accepted;
 }
-
--- the copy of an accepted sheet is what writing gives
-copied-written :
-    (s buffer : List ℕ) → readSheet s .code ≡ 0
-    → (w : SheetWritten) → writtenSheet (readSheet s .station) buffer ≡ w
-    → copiedSheet s buffer ≡ copyAnswer (w .code) (w .bytes)
-unfolding copiedSheet
-copied-written s buffer accepted w e = rw (eq-eqb (readSheet s .code) 0 accepted, e)
-
-pub copy-laws : EachCopied
-unfolding copiedSheet
-copy-laws s byte buffer = record {
-  refused = refused;
-  short-buffer = short-buffer;
-  copied = copied;
-  never-seven = go (eqb (readSheet s .code) 0) refl (ltb (length buffer) (length s)) refl;
-}
-  where
-    refused :
-        readSheet s .code ≢ 0
-        → copiedSheet s buffer ≡ record { found = findingOf (readSheet s); bytes = buffer }
-    refused e = rw (ne-eqb (readSheet s .code) 0 e)
-
-    short-buffer :
-        readSheet s .code ≡ 0 → length buffer < length s
-        → copiedSheet s buffer ≡ copyAnswer 8 buffer
-    short-buffer accepted less =
-        let st = readSheet s .station in
-        let short : length buffer < lengthOf st = rw (same-length s byte accepted) less in
-        let answer = eight st buffer (station-described s byte accepted) short in
-        rw (copied-written s buffer accepted (record { code = 8; bytes = buffer }) answer)
-
-    copied :
-        readSheet s .code ≡ 0 → length s ≤ length buffer
-        → copiedSheet s buffer ≡ copyAnswer 0 (sets buffer 0 s)
-    copied accepted room =
-        let w : SheetWritten = record { code = 0; bytes = sets buffer 0 s } in
-        rw (copied-written s buffer accepted w (written-again s byte accepted buffer room))
-
-    number : SheetCopied → ℕ
-    number a = a .found .code
-
-    go :
-        (good : Bool) → eqb (readSheet s .code) 0 ≡ good
-        → (short : Bool) → ltb (length buffer) (length s) ≡ short
-        → number (copiedSheet s buffer) ≢ 7
-    go false g short q e =
-        let most = code-most s in
-        let told = ap number (refused (eqb-false (readSheet s .code) 0 g)) in
-        omega (arith, most, sym told ∙ e)
-    go true g true q e =
-        let less = ltb-true (length buffer) (length s) q in
-        let told = ap number (short-buffer (eqb-true (readSheet s .code) 0 g) less) in
-        omega (arith, sym told ∙ e)
-    go true g false q e =
-        let room = ltb-false (length buffer) (length s) q in
-        let told = ap number (copied (eqb-true (readSheet s .code) 0 g) room) in
-        omega (arith, sym told ∙ e)

@@ -8,7 +8,9 @@ use lib.ListN.{length, take, drop}
 use lib.Seq.{sets}
 use Rattle.bigendian.specs.BigEndian.{Bytes}
 use Rattle.station.specs.declared.Station.{Station}
+use Rattle.layout.specs.Layout.{version}
 use Rattle.sheet.specs.Sheet.{readSheet, acceptedSheet, findingOf}
+use Rattle.sheet_bytes.specs.SheetBytes.{sheetBytes}
 use Rattle.sheet_bytes.specs.Typed.{TypedStation}
 use Rattle.sheet_writer.specs.Writer.{lengthOf, SheetWritten, writtenSheet}
 use Rattle.sheet_writer.specs.Writer.{SheetCopied, copiedSheet}
@@ -30,16 +32,25 @@ pub record WriterLaws (st : Station) (buffer : List ℕ) (w : SheetWritten) : Ty
   pub accepted : w .code ≢ 7 → w .code ≢ 8 → w .code ≡ 0
   -- WRITE-2: "so that reading them yields that station"
   pub reads-back : w .code ≡ 0 → Describes (take (lengthOf st) (w .bytes)) st
+  -- WRITE-1: "The writer writes version 2"
+  pub second-version : w .code ≡ 0 → version (take (lengthOf st) (w .bytes)) ≡ 2
   -- WRITE-1: "Bytes past the sheet's length are untouched."
   pub past-untouched : w .code ≡ 0 → drop (lengthOf st) (w .bytes) ≡ drop (lengthOf st) buffer
 
 -- what WRITE-2 asks of the answer w of writing the station of an accepted sheet s into a buffer: "a
--- sheet that was read and written comes out byte for byte"
+-- sheet that was read and written comes out byte for byte", "for version 2 sheets and for every
+-- station that either version yields"
 pub record SheetLaws (s buffer : List ℕ) (w : SheetWritten) : Type 0 where
-  -- as the whole of a buffer of its length ..
-  pub byte-for-byte : length buffer ≡ length s → w ≡ record { code = 0; bytes = s }
+  -- of version 2, as the whole of a buffer of its length ..
+  pub byte-for-byte :
+      version s ≡ 2 → length buffer ≡ length s → w ≡ record { code = 0; bytes = s }
   -- .. and at the start of a longer one
-  pub at-the-start : length s ≤ length buffer → w ≡ record { code = 0; bytes = sets buffer 0 s }
+  pub at-the-start :
+      version s ≡ 2 → length s ≤ length buffer → w ≡ record { code = 0; bytes = sets buffer 0 s }
+  -- of either version, as many bytes that are read alike
+  pub written : length s ≤ length buffer → w .code ≡ 0
+  pub reads-alike :
+      length s ≤ length buffer → readSheet (take (length s) (w .bytes)) ≡ readSheet s
 
 -- the answer of copying that has these values
 abbrev pub copyAnswer : ℕ → List ℕ → SheetCopied
@@ -54,10 +65,17 @@ pub record CopyLaws (s buffer : List ℕ) : Type 0 where
   -- then 8
   pub short-buffer :
       readSheet s .code ≡ 0 → length buffer < length s → copiedSheet s buffer ≡ copyAnswer 8 buffer
-  -- else the sheet's bytes at the start of the buffer
+  -- else a sheet of version 2 at the start of the buffer that is read alike ..
   pub copied :
       readSheet s .code ≡ 0 → length s ≤ length buffer
-      → copiedSheet s buffer ≡ copyAnswer 0 (sets buffer 0 s)
+      → copiedSheet s buffer ≡ copyAnswer 0 (sets buffer 0 (sheetBytes (readSheet s .station)))
+  pub same-length :
+      readSheet s .code ≡ 0 → length (sheetBytes (readSheet s .station)) ≡ length s
+  pub reads-alike :
+      readSheet s .code ≡ 0 → readSheet (sheetBytes (readSheet s .station)) ≡ readSheet s
+  -- .. byte for byte, where it is of version 2
+  pub same-bytes :
+      readSheet s .code ≡ 0 → version s ≡ 2 → sheetBytes (readSheet s .station) ≡ s
   pub never-seven : copiedSheet s buffer .found .code ≢ 7
 
 -- The claims: of every station that code can hold, of every accepted sheet, of all bytes; and of

@@ -11,7 +11,7 @@ use Rattle.station.specs.Station.{emptyTurnout, emptyRoute}
 
 -- every number of a record is 0
 abbrev pub isZeroTurnout : Turnout → Bool
-isZeroTurnout t = eqb (t .zone) 0 && eqb (t .partner) 0 && eqb (t .drive) 0
+isZeroTurnout t = eqb (t .zone) 0 && eqb (t .group) 0 && eqb (t .drive) 0
 
 abbrev pub isZeroRoute : Route → Bool
 isZeroRoute r =

@@ -12,9 +12,9 @@ use Rattle.sheet.specs.Sheet.{judged, readSheet, findingOf}
 use Rattle.sheet_bytes.specs.SheetBytes.{sheetBytes}
 use Rattle.sheet_writer.specs.Past.{turnoutsEnd, routesEnd}
 
--- WRITE-3: some sheet describes the station, as it stands: it is one that the reader gives with 0.
--- Its counts are in range, it is judged good, and nothing stands past P and R. No count is read as
--- its limit here.
+-- WRITE-3: some sheet describes the station, as it stands: it is one that the reader gives with 0, from
+-- a sheet of either version. Its counts are in range, it is judged good by the rules of version 2, and
+-- nothing stands past P and R. No count is read as its limit here.
 unfoldable pub described : Station → Bool
 described st =
     countsKept (st .turnouts) (st .routes) (st .zones)
@@ -47,9 +47,9 @@ pub record SheetCopied : Type 0 where
   pub found : Finding
   pub bytes : List ℕ
 
--- WRITE-5, the house's call for those to whom a station does not cross: a sheet, read and written
--- into a buffer. The sheet's own number and index, with the buffer untouched; else what writing its
--- station gives.
+-- WRITE-5, the house's call for those to whom a station does not cross: a sheet of either version, read
+-- and written into a buffer, in version 2. The sheet's own number and index, with the buffer untouched;
+-- else what writing its station gives.
 unfoldable pub copiedSheet : List ℕ → List ℕ → SheetCopied
 copiedSheet sheet buffer =
     let a = readSheet sheet in

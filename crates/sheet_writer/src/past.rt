@@ -10,7 +10,7 @@ use station::observe::at_most_64;
 fn is_zero_turnout(t: Turnout) -> bool
     ensures { λ b. ⌜ b ≡ isZeroTurnout t ⌝ }
 {
-    (t.zone == 0) & (t.partner == 0) & (t.drive == 0)
+    (t.zone == 0) & (t.group == 0) & (t.drive == 0)
 }
 
 fn is_zero_route(r: Route) -> bool

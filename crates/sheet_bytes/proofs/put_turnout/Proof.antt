@@ -20,10 +20,10 @@ returns c =
     let at = a .at in
     let t = a .t in
     let zone = t .zone ∷ [] in
-    let partner = t .partner ∷ [] in
+    let group = t .group ∷ [] in
     let drive = t .drive ∷ [] in
-    part-then zone (partner ++ drive) s0 at (at + 1) refl (c1 .put8 .ensures)
-    (part-then partner drive s1 (at + 1) (at + 2) (omega arith) (c2 .put82 .ensures)
+    part-then zone (group ++ drive) s0 at (at + 1) refl (c1 .put8 .ensures)
+    (part-then group drive s1 (at + 1) (at + 2) (omega arith) (c2 .put82 .ensures)
     (c3 .put83 .ensures))
 
 pub put-turnout-spec : {M : Type 1} → statement M

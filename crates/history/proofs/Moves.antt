@@ -12,13 +12,14 @@ use Rattle.sets.proofs.Membership.{has-zero, has-or, has-single}
 use Rattle.message.specs.declared.Message.{Message}
 use Rattle.station.specs.declared.Station.{Station}
 use Rattle.station.specs.declared.Route.{Route}
-use Rattle.station.specs.Station.{theRoute, hasPartner}
+use Rattle.station.specs.Station.{theRoute}
+use Rattle.groups.specs.Groups.{grouped}
 use Rattle.zone.specs.declared.Movement.{Movement}
 use Rattle.zone.specs.declared.Movement.the-variants.{NoMovement, Standing}
 use Rattle.zone.specs.declared.Passage.{Passage}
 use Rattle.zone.specs.Movement.{underTrain, routeFor, movementFor, clearedAt, keyedAt, orderedAs}
 use Rattle.rules.specs.Clearance.{isEfficient, clearanceFits}
-use Rattle.rules.proofs.Fits.{fits-position, fits-ends, covers-both}
+use Rattle.rules.proofs.Fits.{fits-position, fits-group, covers-group}
 use Rattle.history.specs.Since.{Since, since, any}
 use Rattle.history.specs.History.{is, clears, leaves, standing, allEfficient, clearsWell}
 use Rattle.history.specs.History.{keyFor}
@@ -44,17 +45,17 @@ efficient-alike :
     (st : Station) (r : Route) (m : Message) → clearanceFits st r m ≡ true →
     allEfficient st (m .d0) m ≡ isEfficient (m .d1)
 efficient-alike st r m fits =
-    go (isEfficient (m .d1)) refl (hasPartner st (m .d0)) refl
+    go (isEfficient (m .d1)) refl (grouped st (m .d0)) refl
   where
     go :
         (efficient : Bool) → isEfficient (m .d1) ≡ efficient →
-        (partnered : Bool) → hasPartner st (m .d0) ≡ partnered →
+        (isGrouped : Bool) → grouped st (m .d0) ≡ isGrouped →
         allEfficient st (m .d0) m ≡ efficient
     go true e true p =
-        let ends = fits-ends st r m fits in
-        rw (e, p, covers-both (m .d1) (hasPartner st (m .d0)) (m .d5) ends e p)
+        let covers = fits-group st r m fits in
+        rw (e, p, covers-group (m .d1) (grouped st (m .d0)) (m .d5) covers e p)
     go true e false p = rw (e, p)
-    go false e partnered p = rw e
+    go false e isGrouped p = rw e
 
 module _ (st : Station) (L : List Message) (m : Message) where
   -- 5

@@ -1,13 +1,15 @@
 -- The cases of the history's words: each computes.
 use mathlib.Core.Path.{refl}
-use Rattle.sets.specs.Sets.{has}
-use Rattle.station.specs.Station.{theRoute, hasPartner}
+use Rattle.sets.specs.Range.{countFrom}
+use Rattle.sets.specs.Sets.{has, single, setOf, count}
+use Rattle.groups.specs.Groups.{carriersAmong, tiedAmong, grouped}
+use Rattle.station.specs.Station.{theRoute}
 use Rattle.history.specs.Since.{afterLast, afterFirst, any, anyThenNone}
 use Rattle.history.specs.History.{underAgreedWork, openToWork, standing, cleared}
 use Rattle.history.specs.Cases.{WordCases}
 
 pub word-cases : WordCases
-unfolding has theRoute hasPartner underAgreedWork openToWork standing cleared
+unfolding has single setOf count countFrom carriersAmong tiedAmong theRoute grouped underAgreedWork openToWork standing cleared
     afterLast afterFirst any anyThenNone
 word-cases = record {
   under-1 = refl;

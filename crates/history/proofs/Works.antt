@@ -13,7 +13,8 @@ use Rattle.sets.proofs.Membership.{has-zero, has-or, has-without, has-setOf}
 use Rattle.sets.proofs.Members.{within-member}
 use Rattle.message.specs.declared.Message.{Message}
 use Rattle.station.specs.declared.Station.{Station}
-use Rattle.station.specs.Station.{turnoutCount, zoneOf, zoneTurnouts, splits}
+use Rattle.station.specs.Station.{turnoutCount, zoneOf, zoneTurnouts}
+use Rattle.groups.specs.Groups.{splits}
 use Rattle.zone.specs.declared.Work.{Work}
 use Rattle.zone.specs.declared.Work.the-variants.{NoWork, Asked, Agreed}
 use Rattle.zone.specs.Work.{hasWork, isAgreed, underForm, workSet, agreedSet, openSet, askedFor}

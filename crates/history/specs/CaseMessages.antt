@@ -39,9 +39,9 @@ naming kind time id a b d0 = record {
   d5 = 0;
 }
 
--- a clearance: turnout, declaration, position, clamp, medium, and 1 where it covers both ends
+-- a clearance: turnout, declaration, position, clamp, medium, and 1 where it covers the whole group
 abbrev pub clearance : ℕ → ℕ → ℕ → ℕ → ℕ → ℕ → ℕ → ℕ → Message
-clearance time train turnout declaration position clamp medium both = record {
+clearance time train turnout declaration position clamp medium covers = record {
   kind = 6;
   zone = 0;
   time = time;
@@ -53,10 +53,10 @@ clearance time train turnout declaration position clamp medium both = record {
   d2 = position;
   d3 = clamp;
   d4 = medium;
-  d5 = both;
+  d5 = covers;
 }
 
--- a clearance in the normal position that does not cover both ends
+-- a clearance in the normal position that does not cover the whole group
 abbrev pub clearing : ℕ → ℕ → ℕ → ℕ → ℕ → ℕ → Message
 clearing time train turnout declaration clamp medium =
     clearance time train turnout declaration 0 clamp medium 0

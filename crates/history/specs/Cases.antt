@@ -39,17 +39,17 @@ upTo8 = take 6 acceptedK
 abbrev pub upTo10 : List Message
 upTo10 = take 7 acceptedK
 
--- a station of 3 turnouts, 0 and 1 a crossover and 2 alone, and two routes over {0} with flank {2}:
--- 0 with none reverse, 1 with turnout 2 reverse. The words look at counts, routes and partners alone
+-- a station of 3 turnouts, 0 and 1 a group and 2 alone, and two routes over {0} with flank {2}:
+-- 0 with none reverse, 1 with turnout 2 reverse. The words look at counts, routes and groups alone
 abbrev pub twoRoutes : Station
 twoRoutes = record {
   turnouts = 3;
   routes = 2;
   zones = 1;
   turnout =
-      record { zone = 0; partner = 1; drive = 0 }
-      ∷ record { zone = 0; partner = 0; drive = 0 }
-      ∷ record { zone = 0; partner = 255; drive = 1 }
+      record { zone = 0; group = 0; drive = 0 }
+      ∷ record { zone = 0; group = 0; drive = 0 }
+      ∷ record { zone = 0; group = 255; drive = 1 }
       ∷ replicate 61 emptyTurnout;
   route =
       record { zone = 0; over = 1; flank = 4; exits = 0; reverse = 0 }
@@ -146,7 +146,7 @@ pub record WordCases : Type 0 where
   pub other-turnout : counts 0 0 (declaring 115 512 2 1 1) ≡ false
   pub reverse : counts 1 2 (clearance 115 512 2 1 1 0 1 0) ≡ true
   pub not-reverse : counts 1 2 (declaring 115 512 2 1 0) ≡ false
-  -- on turnout 0, which has a partner, it counts only where it covers both ends; turnout 2 is alone
+  -- on turnout 0, which is of a group, it counts only where it covers the whole group; turnout 2 is alone
   pub covers-one : counts 0 0 (declaring 115 512 0 1 0) ≡ false
   pub covers-one-2 : counts 0 0 (declaring 115 512 0 2 0) ≡ false
   pub alone : counts 0 2 (declaring 115 512 2 1 0) ≡ true

@@ -1,6 +1,7 @@
 -- The words of the history, HIST-2 to HIST-8 (docs/RULES.md). HIST-1: "Over accepted messages of a
 -- zone, in order; a 1 or 10 names what its a holds, a 6 its d0", and so does a 13 (M-105). These
--- definitions share nothing with the desk's rules but set membership and the station.
+-- definitions share nothing with the desk's rules but set membership, the station and which of its
+-- turnouts are of a group, which the cases of the crate `groups` hold.
 use mathlib.Core.Bool.{Bool, true, false, cond, not, _&&_, _||_}
 use mathlib.Core.List.{List}
 use mathlib.Core.Path.{_≡_}
@@ -8,7 +9,8 @@ use Prim.Native.Nat.{ℕ}
 use lib.Dec.{eqb}
 use Rattle.sets.specs.Sets.{has}
 use Rattle.station.specs.declared.Station.{Station}
-use Rattle.station.specs.Station.{theRoute, namedBy, hasPartner}
+use Rattle.station.specs.Station.{theRoute, namedBy}
+use Rattle.groups.specs.Groups.{grouped}
 use Rattle.message.specs.declared.Message.{Message}
 use Rattle.history.specs.Since.{Since, never, since, afterLast, afterFirst, any, anyThenNone}
 
@@ -91,14 +93,14 @@ abbrev pub ofItsRoute : Station → Message → ℕ → Bool
 ofItsRoute st f t = has (namedBy (theRoute st (f .d0))) t
 
 -- HIST-7: "declaration 1 or 2"; M-101: "'All efficient' in the history of a movement then also
--- needs d5 = 1 on a turnout with a partner."
+-- needs d5 = 1 on a turnout with a partner", now of a group
 abbrev pub allEfficient : Station → ℕ → Message → Bool
 allEfficient st t m =
-    (eqb (m .d1) 1 || eqb (m .d1) 2) && (not (hasPartner st t) || eqb (m .d5) 1)
+    (eqb (m .d1) 1 || eqb (m .d1) 2) && (not (grouped st t) || eqb (m .d5) 1)
 
 -- HIST-7: "Clearance for that train, in the route's position, all efficient: after that 5 a 6
 -- naming the turnout, with the same id, d2 1 if in the route's reverse and else 0, declaration 1 or
--- 2", and both ends covered where the turnout has a partner
+-- 2", and the whole group covered where the turnout is of one
 abbrev pub clearsWell : Station → Message → ℕ → Message → Bool
 clearsWell st f t m =
     clears t m

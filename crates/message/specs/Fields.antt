@@ -32,7 +32,7 @@ nothing = record { a = false; b = false; spans = [] }
 
 -- RECORD-3, kind 6: "d0 turnout 0-63; d1 declaration 1-9; d2 0 normal, 1 reverse; d3 0 no clamp, 1
 -- clamp, 2 attended; d4 1 voice, 2 written"; M-101: "d5 becomes a field of 0 or 1: 1 says the
--- declaration covers both ends"
+-- declaration covers both ends", now the whole group
 abbrev pub clearanceSpans : List Span
 clearanceSpans = (0 to 63) ∷ (1 to 9) ∷ (0 to 1) ∷ (0 to 2) ∷ (1 to 2) ∷ (0 to 1) ∷ []
 

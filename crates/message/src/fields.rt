@@ -53,7 +53,8 @@ fn first_detail(m: Message, least: u8, most: u8) -> bool
     in_span(m.d0, least, most) & no_more_details(m)
 }
 
-// The details of a clearance: turnout, declaration, position, clamp, voice or written, whether it covers both ends.
+// The details of a clearance: turnout, declaration, position, clamp, voice or written, whether it covers the whole
+// group.
 fn clearance_details(m: Message) -> bool
     ensures { λ r. ⌜ r ≡ detailsKept clearanceSpans (details m) ⌝ }
 {

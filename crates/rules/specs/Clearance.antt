@@ -6,7 +6,8 @@ use lib.Dec.{eqb, leb}
 use Rattle.sets.specs.Sets.{has}
 use Rattle.station.specs.declared.Station.{Station}
 use Rattle.station.specs.declared.Route.{Route}
-use Rattle.station.specs.Station.{driveOf, hasPartner}
+use Rattle.station.specs.Station.{driveOf}
+use Rattle.groups.specs.Groups.{grouped}
 use Rattle.message.specs.declared.Message.{Message}
 
 -- FIT-5: "Declarations 1 and 2 mean all efficient"
@@ -29,10 +30,11 @@ clampFits declaration over clamp =
     (cond (eqb declaration 8) (cond over (eqb clamp 1 || eqb clamp 2) (eqb clamp 0))
     (eqb clamp 0))
 
--- FIT-4: "Declarations 1 and 2 on a turnout with a partner need d5 = 1. In every other clearance d5
--- is 0. A clearance breaking this gets 20"
-abbrev pub endsFit : ℕ → Bool → ℕ → Bool
-endsFit declaration partnered both = eqb both (cond (isEfficient declaration && partnered) 1 0)
+-- FIT-4: "with declaration 1 or 2 on a turnout of a group, of whatever size, d5 is 1; in every other
+-- clearance d5 is 0"
+abbrev pub groupFits : ℕ → Bool → ℕ → Bool
+groupFits declaration isGrouped covers =
+    eqb covers (cond (isEfficient declaration && isGrouped) 1 0)
 
 -- KIND-6.4, FIT-1 to FIT-4: "Clearances fit (20) when d2 is the route's position, d1 fits the drive
 -- .. and so does d3", and d5 fits too
@@ -41,7 +43,7 @@ clearanceFits st r m =
     positionFits r (m .d0) (m .d2)
     && driveFits (m .d1) (driveOf st (m .d0))
     && clampFits (m .d1) (has (r .over) (m .d0)) (m .d3)
-    && endsFit (m .d1) (hasPartner st (m .d0)) (m .d5)
+    && groupFits (m .d1) (grouped st (m .d0)) (m .d5)
 
 -- KIND-6.5: "Check 21: voice needs a working recorder, written one that is out (3.26)."
 abbrev pub mediumFits : Bool → ℕ → Bool

@@ -5,7 +5,8 @@ use lib.Dec.{eqb, ltb}
 use Rattle.sets.specs.Sets.{has, isEmpty, overlaps, within, union}
 use Rattle.station.specs.declared.Route.{Route}
 use Rattle.station.specs.declared.Station.{Station}
-use Rattle.station.specs.Station.{routeCount, zoneTurnouts, splits}
+use Rattle.station.specs.Station.{routeCount, zoneTurnouts}
+use Rattle.groups.specs.Groups.{splits}
 use Rattle.message.specs.declared.Message.{Message}
 use Rattle.zone.specs.declared.Work.{Work}
 use Rattle.zone.specs.declared.Movement.{Movement}
@@ -26,7 +27,7 @@ noWorkUnder z m = not (underForm (workOf z) (m .id))
 abbrev pub noMovementUnder : Zone → Message → Bool
 noMovementUnder z m = not (isStanding (itsMovement z m))
 
--- KIND-1.2: "a empty, outside the zone or splitting a crossover (Art. 2.16, 2.19)"
+-- KIND-1.2: "a empty, outside the zone or splitting a crossover (Art. 2.16, 2.19)", now a group
 abbrev pub badRequest : Station → ℕ → ℕ → Bool
 badRequest st zone a = isEmpty a || not (within a (zoneTurnouts st zone)) || splits st a
 
@@ -38,7 +39,7 @@ badDetection set a b = isEmpty (union a b) || overlaps a b || not (within (union
 abbrev pub badRoute : Station → Route → ℕ → ℕ → Bool
 badRoute st r zone route = not (ltb route (routeCount st)) || not (eqb (r .zone) zone)
 
--- KIND-10.2: "a empty, not a proper part of the work, or splitting a crossover"
+-- KIND-10.2: "a empty, not a proper part of the work, or splitting a crossover", now a group
 abbrev pub badPart : Station → ℕ → ℕ → Bool
 badPart st set a = isEmpty a || not (within a set) || eqb a set || splits st a
 

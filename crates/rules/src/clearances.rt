@@ -5,7 +5,7 @@ ghost use Rattle.rules.specs.Clearance.{
   positionFits,
   driveFits,
   clampFits,
-  endsFit,
+  groupFits,
   clearanceFits,
   mediumFits,
 };
@@ -62,15 +62,15 @@ fn clamp_fits(declaration: u8, over: bool, clamp: u8) -> bool
     clamp == 0
 }
 
-// Whether a declaration covers both ends where it must, and nowhere else: where all is efficient on a turnout with a
-// partner (FIT-4).
-fn ends_fit(declaration: u8, partnered: bool, both: u8) -> bool
-    ensures { λ r. ⌜ r ≡ endsFit declaration partnered both ⌝ }
+// Whether a declaration covers the whole group where it must, and nowhere else: where all is efficient on a turnout of
+// a group (FIT-4).
+fn group_fits(declaration: u8, grouped: bool, covers: u8) -> bool
+    ensures { λ r. ⌜ r ≡ groupFits declaration grouped covers ⌝ }
 {
-    if is_efficient(declaration) & partnered {
-        return both == 1;
+    if is_efficient(declaration) & grouped {
+        return covers == 1;
     }
-    both == 0
+    covers == 0
 }
 
 // Whether a clearance fits its turnout in a route (KIND-6.4).
@@ -79,11 +79,11 @@ pub fn clearance_fits(st: Station, r: Route, m: Message) -> bool
 {
     let over = sets::contains(r.over, m.d0 as usize);
     let drive = station::drive_of(st, m.d0 as usize);
-    let partnered = station::has_partner(st, m.d0 as usize);
+    let grouped = groups::is_grouped(st, m.d0 as usize);
     position_fits(r, m.d0, m.d2)
         & drive_fits(m.d1, drive)
         & clamp_fits(m.d1, over, m.d3)
-        & ends_fit(m.d1, partnered, m.d5)
+        & group_fits(m.d1, grouped, m.d5)
 }
 
 // Whether the medium of a clearance, 1 voice or 2 written, is the one that the recorder asks for (KIND-6.5).

@@ -69,13 +69,13 @@ pub fn no_movement_under(z: Zone, m: Message) -> bool
     !is_standing(movement_under(z, m.id))
 }
 
-// 17 of a request: empty, outside the zone or splitting a crossover (KIND-1.2).
+// 17 of a request: empty, outside the zone or splitting a group (KIND-1.2).
 pub fn bad_request(st: Station, zone: u8, a: u64) -> bool
     ensures { λ r. ⌜ r ≡ badRequest st zone a ⌝ }
 {
     sets::is_empty(a)
         | !sets::is_within(a, station::turnouts_of_zone(st, zone))
-        | station::splits_crossover(st, a)
+        | groups::splits_group(st, a)
 }
 
 // 17 of detection off: both empty, overlapping or outside the work (KIND-4.2).
@@ -95,11 +95,11 @@ pub fn bad_route(st: Station, r: Route, zone: u8, route: u8) -> bool
     !(n < count) | !(r.zone == zone)
 }
 
-// 17 of a part restored: empty, not a proper part of the work, or splitting a crossover (KIND-10.2).
+// 17 of a part restored: empty, not a proper part of the work, or splitting a group (KIND-10.2).
 pub fn bad_part(st: Station, set: u64, a: u64) -> bool
     ensures { λ r. ⌜ r ≡ badPart st set a ⌝ }
 {
-    sets::is_empty(a) | !sets::is_within(a, set) | (a == set) | station::splits_crossover(st, a)
+    sets::is_empty(a) | !sets::is_within(a, set) | (a == set) | groups::splits_group(st, a)
 }
 
 // 19: whether a standing movement names a turnout of the set (KIND-2.3, KIND-10.4, KIND-11.3).

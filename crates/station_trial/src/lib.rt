@@ -1,7 +1,8 @@
-// The writer of sheets and the crossover test for every station value, from numbers in bytes: what `./compare` tries
-// them by. It is not shipped: a station that no sheet gave does not come from a unit.
+// The writer of sheets and the test for splitting for every station value, from numbers in bytes: what `./compare`
+// tries them by. It is not shipped: a station that no sheet gave does not come from a unit.
 ghost use mathlib.Core.Path.{_≡_};
-ghost use Rattle.station.specs.Station.{numberIf, splits};
+ghost use Rattle.station.specs.Station.{numberIf};
+ghost use Rattle.groups.specs.Groups.{splits};
 ghost use Rattle.sheet_writer.specs.Writer.{writtenSheet};
 ghost use Rattle.station_trial.specs.Values.{stationOf};
 use station::Station;
@@ -31,10 +32,10 @@ pub extern "C" fn trial_write_sheet(values: &[u8], buffer: &mut [u8]) -> u8
     sheet_writer::write_sheet(station_of(values), buffer)
 }
 
-// Whether a set splits a crossover of the station with these numbers: 1 for yes.
+// Whether a set splits a group of the station with these numbers: 1 for yes.
 #[no_mangle]
 pub extern "C" fn trial_splits(values: &[u8], set: u64) -> u8
     ensures { λ r. ⌜ r ≡ numberIf (splits (stationOf (now (values .entry))) set) 1 0 ⌝ }
 {
-    station::first_code(station::splits_crossover(station_of(values), set), 1, 0)
+    station::first_code(groups::splits_group(station_of(values), set), 1, 0)
 }

@@ -21,7 +21,8 @@ use Rattle.history.specs.Lists.{zoneMessages}
 use Rattle.history.specs.Demand3.{ours, Demand3}
 use Rattle.history.specs.CaseMessages.{keying}
 use Rattle.history.specs.Cases.{asked, keyed2}
-use Rattle.worked_cases.specs.StationK.{sheetK, stationK, recordsK, cleared0, oneEndCleared}
+use Rattle.sheet.specs.Cases.{sheetK}
+use Rattle.worked_cases.specs.StationK.{stationK, recordsK, cleared0, oneEndCleared}
 use Rattle.worked_cases.specs.StationK.{oneEndHeard, keyedHeard, nextAsked, nextTrain}
 use Rattle.worked_cases.specs.StationK.{nextHeard}
 use Rattle.worked_cases.specs.OtherDesks.{answeringMovements, keepingNothing, staysFresh}

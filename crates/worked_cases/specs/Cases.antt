@@ -19,7 +19,8 @@ use Rattle.history.specs.CaseMessages.{plain, naming, clearing, declaring, keyi
 use Rattle.history.specs.CaseMessages.{movementTold}
 use Rattle.history.specs.Cases.{asked, acceptedK, upTo3, upTo6, upTo8, upTo10, keyed2}
 use Rattle.worked_cases.specs.OtherDesks.{takesForBoth, keepsNoKeys, keysOutlive}
-use Rattle.worked_cases.specs.StationK.{sheetK, stationK, messagesK, recordsK, journalK}
+use Rattle.sheet.specs.Cases.{sheetK}
+use Rattle.worked_cases.specs.StationK.{stationK, messagesK, recordsK, journalK}
 use Rattle.worked_cases.specs.StationK.{replayedK, linesK, answersK, openK, heardK}
 use Rattle.worked_cases.specs.StationK.{verbal, verbalMovement, recorderOut, RestoredAfter}
 use Rattle.worked_cases.specs.StationK.{crossover, cleared0, cleared2, oneEndCleared}
@@ -97,9 +98,9 @@ pub record Cases : Type 0 where
   pub signal-1 : Verdicts.judged 1 1 2 ≡ record { code = 0; verdict = 3 }
   pub signal-2 : Verdicts.judged 1 2 2 ≡ record { code = 0; verdict = 2 }
   pub line-2 : Verdicts.judged 2 1 2 ≡ record { code = 0; verdict = 5 }
-  -- FIT-4: "Declarations 1 and 2 on a turnout with a partner need d5 = 1. In every other clearance
-  -- d5 is 0. A clearance breaking this gets 20; a d5 above 1 gets 13." Turnout 0 is one end of a
-  -- crossover, turnout 2 is alone
+  -- FIT-4: "with declaration 1 or 2 on a turnout of a group, of whatever size, d5 is 1; in every other
+  -- clearance d5 is 0 .. 0 or 1 where the other is due is 20; above 1 is 13". Turnout 0 is one end of a
+  -- crossover, a group of two, turnout 2 is alone
   pub covers-one : GetsFourth crossover (cleared0 1 0) 20
   pub covers-both : GetsFourth crossover (cleared0 1 1) 0
   pub covers-one-2 : GetsFourth crossover (cleared0 2 0) 20

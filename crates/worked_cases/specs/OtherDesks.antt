@@ -1,7 +1,7 @@
 -- Desks that ACCEPT-3 (docs/RULES.md) turns down: "one always held; one that keeps no state", the
 -- second as one whose work answer does not depend on what it heard, and as one that stays fresh.
 -- And those that are turned down since the requests: M-101 (FIT-4), one that takes a clearance for
--- one of both ends; M-105 (KIND-13.5, KIND-8.3), one that accepts a key and still lacks the
+-- one end of a crossover as one for both; M-105 (KIND-13.5, KIND-8.3), one that accepts a key and still lacks the
 -- turnout, and one whose keys outlive the train.
 use mathlib.Core.Bool.{cond, _&&_}
 use Prim.Native.Nat.{ℕ}

@@ -1,4 +1,4 @@
--- Station K, K-1 and K-2 (docs/RULES.md): its sheet, its records, and the lists of messages that
+-- Station K, K-1 and K-2 (docs/RULES.md): its station, its records, and the lists of messages that
 -- its cases are worked on.
 use mathlib.Core.Bool.{Bool}
 use mathlib.Core.List.{List, [], _∷_, _++_, map, foldr}
@@ -8,6 +8,7 @@ use lib.ListN.{take, replicate}
 use Rattle.message.specs.declared.Message.{Message}
 use Rattle.message.specs.Record.{encoded, WriteAnswer}
 use Rattle.station.specs.declared.Station.{Station}
+use Rattle.sheet.specs.Cases.{sheetK}
 use Rattle.sheet.specs.Sheet.{readSheet}
 use Rattle.desk.specs.Desk.{freshDesk}
 use Rattle.desk.specs.declared.MovementAnswer.{MovementAnswer}
@@ -19,21 +20,7 @@ use Rattle.history.specs.CaseMessages.{plain, naming, clearing, declaring, repl
 use Rattle.history.specs.Cases.{asked, keyed2}
 use Rattle.replay.specs.Replay.{replayed}
 
--- K-1: "P = 3, Z = 1, R = 1; 0 and 1 an electric crossover, 2 alone by hand; route 0 runs over {0},
--- flank {2}, reverse empty: 50 bytes."
-abbrev pub sheetK : List ℕ
-sheetK =
-    83 ∷ 80 ∷ 84 ∷ 0 ∷ 1 ∷ 3 ∷ 1 ∷ 1
-    ∷ 0 ∷ 1 ∷ 0
-    ∷ 0 ∷ 0 ∷ 0
-    ∷ 0 ∷ 255 ∷ 1
-    ∷ 0
-    ∷ 0 ∷ 0 ∷ 0 ∷ 0 ∷ 0 ∷ 0 ∷ 0 ∷ 1
-    ∷ 0 ∷ 0 ∷ 0 ∷ 0 ∷ 0 ∷ 0 ∷ 0 ∷ 4
-    ∷ 0 ∷ 0 ∷ 0 ∷ 0 ∷ 0 ∷ 0 ∷ 0 ∷ 0
-    ∷ 0 ∷ 0 ∷ 0 ∷ 0 ∷ 0 ∷ 0 ∷ 0 ∷ 0
-    ∷ []
-
+-- K-1: the station of its sheet, of version 1
 abbrev pub stationK : Station
 stationK = readSheet sheetK .station
 
@@ -119,7 +106,7 @@ RestoredAfter seconds minutes =
 abbrev pub crossover : List Message
 crossover = naming 1 0 7 3 0 1 ∷ plain 2 90 7 ∷ asked 0 ∷ []
 
--- there a clearance of turnout 0, given the declaration and 1 where it covers both ends
+-- there a clearance of turnout 0, given the declaration and 1 where it covers the whole group
 abbrev pub cleared0 : ℕ → ℕ → Message
 cleared0 declaration both = declaring 115 512 0 declaration both
 

@@ -6,7 +6,7 @@ returns : tie.Need-returns
 returns c =
     rw (
       c .first-code .ensures,
-      c .before .splits-crossover .ensures,
+      c .before .splits-group .ensures,
       c .before .before .station-of .ensures,
     )
 

@@ -6,15 +6,15 @@ use Rattle.rules.proofs.clearances.clearance_fits.Tie as tie
 returns : tie.Need-returns
 unfolding clearanceFits
 returns c =
-    let partner = c .before .before .before .before in
+    let grouping = c .before .before .before .before in
     rw (
-      c .ends-fit .ensures,
+      c .group-fits .ensures,
       c .before .clamp-fits .ensures,
       c .before .before .drive-fits .ensures,
       c .before .before .before .position-fits .ensures,
-      partner .has-partner .ensures,
-      partner .before .before .drive-of .ensures,
-      partner .before .before .before .before .contains .ensures,
+      grouping .is-grouped .ensures,
+      grouping .before .before .drive-of .ensures,
+      grouping .before .before .before .before .contains .ensures,
     )
 
 pub clearance-fits-spec : {M : Type 1} → statement M

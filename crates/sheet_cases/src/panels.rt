@@ -35,9 +35,10 @@ fn put_routes(s: &mut [u8], p: u8, r: u8) {
     }
 }
 
-// Stores a plain sheet of P turnouts, R routes and one zone in bytes that are 0; what does not fit is left off.
-fn put_plain(s: &mut [u8], p: u8, r: u8) {
-    put_header(s, p, r, 1);
+// Stores a plain sheet of version 1 with P turnouts, R routes and one zone in bytes that are 0; what does not fit is
+// left off. With version 2 it is good too: every turnout is alone.
+pub fn put_plain(s: &mut [u8], p: u8, r: u8) {
+    put_header(s, 1, p, r, 1);
     put_turnouts(s, p);
     put_routes(s, p, r);
 }

@@ -1,11 +1,11 @@
-// The sheets that the cases start from, put into a buffer that is 0.
+// The sheets of version 1 that the cases start from, put into a buffer that is 0.
 use case_rows::put;
 
 // A set with one turnout below 8.
-const ONE: [u8; 8] = [1, 2, 4, 8, 16, 32, 64, 128];
+pub const ONE: [u8; 8] = [1, 2, 4, 8, 16, 32, 64, 128];
 
 // Stores bytes one after another from a place on.
-fn put_bytes(s: &mut [u8], at: usize, bytes: &[u8]) {
+pub fn put_bytes(s: &mut [u8], at: usize, bytes: &[u8]) {
     let mut place = at;
     let mut i: usize = 0;
     while i < bytes.len() {
@@ -15,9 +15,9 @@ fn put_bytes(s: &mut [u8], at: usize, bytes: &[u8]) {
     }
 }
 
-// Stores a header with the counts P, R and Z.
-pub fn put_header(s: &mut [u8], p: u8, r: u8, z: u8) {
-    put_bytes(s, 0, &[b'S', b'P', b'T', 0, 1, p, r, z]);
+// Stores a header with the version and the counts P, R and Z.
+pub fn put_header(s: &mut [u8], version: u8, p: u8, r: u8, z: u8) {
+    put_bytes(s, 0, &[b'S', b'P', b'T', 0, version, p, r, z]);
 }
 
 // Stores a route whose sets have turnouts below 8 only: its zone, run over, flank, exit zone, reverse. The bytes
@@ -33,8 +33,8 @@ fn put_route(s: &mut [u8], at: u8, zone: u8, sets: [u8; 4]) {
 
 // Stores station K (K-1 of docs/RULES.md) in 50 bytes that are 0: 0 and 1 an electric crossover, 2 alone by hand; the
 // route runs over {0}, flank {2}, exit zone and reverse empty.
-fn put_k(s: &mut [u8]) {
-    put_header(s, 3, 1, 1);
+pub fn put_k(s: &mut [u8]) {
+    put_header(s, 1, 3, 1, 1);
     put_bytes(s, 8, &[0, 1, 0, 0, 0, 0, 0, 255, 1]);
     put_route(s, 17, 0, [1, 4, 0, 0]);
 }
@@ -44,8 +44,8 @@ fn put_k(s: &mut [u8]) {
 // in zone 1. The routes: 0: zone 0, runs over {0}, flank {1, 2}, exit zone empty, reverse {0};
 // 1: zone 1, runs over {4, 6}, flank empty, exit zone {3}, reverse {4};
 // 2: zone 1, runs over {3}, flank {4, 5}, exit zone {6}, reverse {3, 6}.
-fn put_large(s: &mut [u8]) {
-    put_header(s, 8, 3, 2);
+pub fn put_large(s: &mut [u8]) {
+    put_header(s, 1, 8, 3, 2);
     put_bytes(s, 8, &[0, 255, 0, 0, 2, 0, 0, 1, 0]);
     put_bytes(s, 17, &[1, 255, 1, 1, 5, 0, 1, 4, 0, 1, 7, 1, 1, 6, 1]);
     put_route(s, 32, 0, [1, 6, 0, 1]);
@@ -89,7 +89,7 @@ fn if_odd(n: u8, value: u8) -> u8 {
 }
 
 // Stores route n of the largest sheet: it runs over {n}, which lies reverse if n is odd.
-fn put_route_of_many(s: &mut [u8], n: u8, zones: u8) {
+pub fn put_route_of_many(s: &mut [u8], n: u8, zones: u8) {
     let at = 200 + 33 * (n as usize);
     let last = at + 8 - (n / 8 % 8) as usize;
     let one = ONE[(n % 8) as usize];
@@ -99,43 +99,12 @@ fn put_route_of_many(s: &mut [u8], n: u8, zones: u8) {
 }
 
 // Stores the largest sheet, 2,312 bytes: 64 turnouts and 64 routes, with 1 to 8 zones.
-fn put_largest(s: &mut [u8], zones: u8) {
-    put_header(s, 64, 64, zones);
+pub fn put_largest(s: &mut [u8], zones: u8) {
+    put_header(s, 1, 64, 64, zones);
     let mut n: u8 = 0;
     while n < 64 {
         put_turnout_of_many(s, n, zones);
         put_route_of_many(s, n, zones);
         n += 1;
     }
-}
-
-// Stores the sheet that a base number names: 1 station K, 2 the larger sheet, 3 the largest with 8 zones, 4 the
-// largest with 1.
-pub fn put_base(s: &mut [u8], base: u16) {
-    match base {
-        1 => put_k(s),
-        2 => put_large(s),
-        3 => put_largest(s, 8),
-        4 => put_largest(s, 1),
-        _ => {}
-    }
-}
-
-// How many bytes the sheet has that a base number names.
-pub fn base_length(base: u16) -> usize {
-    match base {
-        1 => 50,
-        2 => 131,
-        3 => 2312,
-        4 => 2312,
-        _ => 0,
-    }
-}
-
-// The station that station K's sheet gives.
-pub fn station_k() -> station::Station {
-    let mut s = [0u8; 50];
-    put_k(&mut s);
-    let r = sheet::read_sheet(&s);
-    r.station
 }

@@ -1,9 +1,9 @@
 // What stations say: that of station K, and stations that no sheet gave.
-use super::sheets::station_k;
+use super::bases::station_k;
 
 // The numbers of a turnout, added up.
 fn turnout_sum(t: station::Turnout) -> u64 {
-    t.zone as u64 + t.partner as u64 + t.drive as u64
+    t.zone as u64 + t.group as u64 + t.drive as u64
 }
 
 pub fn plus(a: u64, b: u64) -> u64 {
@@ -29,14 +29,14 @@ pub fn sum(st: station::Station) -> u64 {
 }
 
 // A station that no sheet gave: all counts are the same, and so are all turnouts and all routes.
-fn made(count: u8, partner: u8) -> station::Station {
+fn made(count: u8, number: u8) -> station::Station {
     station::Station {
         turnouts: count,
         routes: count,
         zones: count,
         turnout: [station::Turnout {
             zone: 9,
-            partner,
+            group: number,
             drive: 7,
         }; 64],
         route: [station::Route {
@@ -50,11 +50,26 @@ fn made(count: u8, partner: u8) -> station::Station {
 }
 
 // The station that a question is about: station K for count 0, else one that no sheet gave.
-pub fn asked(count: u16, partner: u16) -> station::Station {
+pub fn asked(count: u16, number: u16) -> station::Station {
     if count == 0 {
         return station_k();
     }
-    made((count % 256) as u8, (partner % 256) as u8)
+    made((count % 256) as u8, (number % 256) as u8)
+}
+
+// The turnouts tied to a turnout: those of its group, or itself.
+pub fn tied(st: station::Station, n: usize) -> u64 {
+    groups::tied_to(st, n)
+}
+
+// Whether a turnout is of a group.
+pub fn grouped(st: station::Station, n: usize) -> bool {
+    groups::is_grouped(st, n)
+}
+
+// Whether a set splits a group.
+pub fn splits(st: station::Station, set: u64) -> bool {
+    groups::splits_group(st, set)
 }
 
 // The answer to a question about a turnout, a zone, a route or a set n.
@@ -63,11 +78,11 @@ pub fn answer(st: station::Station, question: u16, n: u16) -> u64 {
     match question {
         13 => station::zone_of(st, i) as u64,
         14 => station::drive_of(st, i) as u64,
-        15 => station::tied_to(st, i),
+        15 => tied(st, i),
         16 => station::turnouts_of_zone(st, (n % 256) as u8),
         17 => station::names(station::route_of(st, i)),
-        18 => station::splits_crossover(st, n as u64) as u64,
-        19 => station::has_partner(st, i) as u64,
+        18 => splits(st, n as u64) as u64,
+        19 => grouped(st, i) as u64,
         _ => count(st, question),
     }
 }

@@ -1,6 +1,6 @@
 // Stations that are written: changes to a station's numbers, and what the writer leaves in a buffer.
+use super::bases;
 use super::first;
-use super::sheets;
 use super::stations::plus;
 use super::write_number;
 use case_rows::byte_at;
@@ -10,7 +10,7 @@ use station::Station;
 use station::Turnout;
 
 // Every byte of the buffer before the call.
-const BEFORE: u8 = 170;
+pub const BEFORE: u8 = 170;
 
 // A station, and the place in the input after its changes so far.
 struct Changed {
@@ -33,14 +33,11 @@ fn with_count(st: Station, j: u16, value: u8) -> Station {
     }
 }
 
-// The turnout with another number: 0 the zone, 1 the partner, 2 the drive.
+// The turnout with another number: 0 the zone, 1 the number of its group, 2 the drive.
 fn turnout_with(t: Turnout, j: u16, value: u8) -> Turnout {
     match j {
         0 => Turnout { zone: value, ..t },
-        1 => Turnout {
-            partner: value,
-            ..t
-        },
+        1 => Turnout { group: value, ..t },
         _ => Turnout { drive: value, ..t },
     }
 }
@@ -120,7 +117,7 @@ fn with_pairs(input: &[u8], st: Station, at: usize) -> Changed {
 }
 
 // How many bytes at the start of the buffer are those of a sheet.
-fn same(s: &[u8], sheet: &[u8]) -> usize {
+pub fn same(s: &[u8], sheet: &[u8]) -> usize {
     let mut i: usize = 0;
     while i < sheet.len() {
         if s.len() <= i {
@@ -135,7 +132,7 @@ fn same(s: &[u8], sheet: &[u8]) -> usize {
 }
 
 // How many bytes of the buffer from a place on are as they were before the call.
-fn untouched(s: &[u8], from: usize) -> u64 {
+pub fn untouched(s: &[u8], from: usize) -> u64 {
     let mut n: u64 = 0;
     let mut i = from;
     while i < s.len() {
@@ -162,15 +159,16 @@ fn part_tried(st: Station, s: &mut [u8], n: usize, sheet: &[u8]) {
     buffer_tried(st, &mut s[..n], sheet);
 }
 
-// Tries what the line has from a place on, with a sheet to start from; the place after it.
-fn sheet_tried(input: &[u8], at: usize, sheet: &[u8]) -> usize {
+// Tries what the line has from a place on, with a sheet to start from and what writing its station gives; the place
+// after it.
+fn sheet_tried(input: &[u8], at: usize, sheet: &[u8], written: &[u8]) -> usize {
     let n = number_at(input, at);
     let read = sheet::read_sheet(sheet);
     let st = read.station;
     let c = with_pairs(input, st, n.next);
     let changed = c.station;
     let mut s = [BEFORE; 2400];
-    part_tried(changed, &mut s, n.value as usize, sheet);
+    part_tried(changed, &mut s, n.value as usize, written);
     c.next
 }
 
@@ -178,6 +176,9 @@ fn sheet_tried(input: &[u8], at: usize, sheet: &[u8]) -> usize {
 // gives the empty station.
 pub fn tried(input: &[u8], base: u16, at: usize) -> usize {
     let mut s = [0u8; 2312];
-    sheets::put_base(&mut s, base);
-    sheet_tried(input, at, first(&s, sheets::base_length(base)))
+    let mut w = [0u8; 2312];
+    bases::put_base(&mut s, base);
+    bases::put_base(&mut w, bases::written(base));
+    let n = bases::base_length(base);
+    sheet_tried(input, at, first(&s, n), first(&w, n))
 }

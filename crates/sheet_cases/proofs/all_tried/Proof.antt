@@ -8,7 +8,7 @@ abbrev Inv-loop : tie.InvT-loop
 Inv-loop input at₀ i₀ at i = Unit
 
 abbrev μ-loop : tie.MeasureT-loop
-μ-loop input at₀ i₀ at i = 600 - i
+μ-loop input at₀ i₀ at i = 1600 - i
 
 pub all-tried-spec : {M : Type 1} → statement M
 all-tried-spec =

@@ -1,8 +1,8 @@
 -- The turnouts are made in turn; those left fall.
 use Prim.Native.Nat.{_-_}
 use borrow.Author.Needs.{needs}
-use Rattle.sheet_cases.proofs.crossovers.turnouts_in.Statement.{statement}
-use Rattle.sheet_cases.proofs.crossovers.turnouts_in.Tie as tie
+use Rattle.sheet_cases.proofs.splitting.turnouts_in.Statement.{statement}
+use Rattle.sheet_cases.proofs.splitting.turnouts_in.Tie as tie
 
 abbrev Inv-loop : tie.InvT-loop
 Inv-loop s ts₀ n₀ ts n = Unit

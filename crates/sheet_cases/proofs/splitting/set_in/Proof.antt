@@ -1,8 +1,8 @@
 -- The turnouts are looked at in turn; those left fall.
 use Prim.Native.Nat.{_-_}
 use borrow.Author.Needs.{needs}
-use Rattle.sheet_cases.proofs.crossovers.set_in.Statement.{statement}
-use Rattle.sheet_cases.proofs.crossovers.set_in.Tie as tie
+use Rattle.sheet_cases.proofs.splitting.set_in.Statement.{statement}
+use Rattle.sheet_cases.proofs.splitting.set_in.Tie as tie
 
 abbrev Inv-loop : tie.InvT-loop
 Inv-loop s set₀ n₀ set n = Unit

@@ -1,7 +1,8 @@
-// Tries the unit (UNIT-1 to UNIT-6 of docs/RULES.md) on station K and on a second station. The unit is proved to
-// follow the rules in its crate's specs/; what this program writes shows that these rules give the answers that
-// docs/RULES.md does, and that a desk's bytes stand where the layout says.
-// Both stations' sheets are in data/, the cases are in stdin and the expected lines in stdout, written from the rules
+// Tries the unit (UNIT-1 to UNIT-6 of docs/RULES.md) on station K, on a second station, and on a third one, whose
+// sheet is of version 2 and has groups (M-107). The unit is proved to follow the rules in its crate's specs/; what
+// this program writes shows that these rules give the answers that docs/RULES.md does, and that a desk's bytes stand
+// where the layout says.
+// The stations' sheets are in data/, the cases are in stdin and the expected lines in stdout, written from the rules
 // and the layout by hand; no expected number stands here.
 //
 // One desk is kept from row to row, in a buffer of 521 bytes that are 7 at first. A row of the input that starts with
@@ -14,7 +15,7 @@
 // k and the length of a record, which is heard. Written: the code, the minutes, and whether the copy is changed.
 // 5: zone and train of the movement question. Written: the code, the regime, the lowest turnout, the count.
 // 6: the turnout of the work question. Written: the code, and 1 for yes.
-// 7, 8 and 9 are 2, 5 and 6 on the second station.
+// 7, 8 and 9 are 2, 5 and 6 on the second station, 10, 11 and 12 on the third.
 mod hearing;
 mod parts;
 mod questions;
@@ -27,6 +28,7 @@ use parts::SHEET;
 fn row_tried(
     sheet: &[u8],
     second: &[u8],
+    third: &[u8],
     journal: &[u8],
     desk: &mut [u8],
     input: &[u8],
@@ -43,6 +45,9 @@ fn row_tried(
         7 => hearing::record_tried(second, journal, desk, input, at),
         8 => questions::movement_tried(second, desk, input, at),
         9 => questions::work_tried(second, desk, input, at),
+        10 => hearing::record_tried(third, journal, desk, input, at),
+        11 => questions::movement_tried(third, desk, input, at),
+        12 => questions::work_tried(third, desk, input, at),
         _ => at,
     }
 }
@@ -51,6 +56,7 @@ fn row_tried(
 fn named_tried(
     sheet: &[u8],
     second: &[u8],
+    third: &[u8],
     journal: &[u8],
     desk: &mut [u8],
     input: &[u8],
@@ -58,7 +64,16 @@ fn named_tried(
 ) -> usize {
     io::write_all(1, case_rows::name(input, at));
     let kind = number_at(input, case_rows::after_name(input, at));
-    let next = row_tried(sheet, second, journal, desk, input, kind.value, kind.next);
+    let next = row_tried(
+        sheet,
+        second,
+        third,
+        journal,
+        desk,
+        input,
+        kind.value,
+        kind.next,
+    );
     io::write_all(1, b"\n");
     case_rows::after(next)
 }
@@ -67,6 +82,7 @@ fn named_tried(
 fn line_tried(
     sheet: &[u8],
     second: &[u8],
+    third: &[u8],
     journal: &[u8],
     desk: &mut [u8],
     input: &[u8],
@@ -79,16 +95,16 @@ fn line_tried(
     if first == b'#' {
         return case_rows::after_line(input, at);
     }
-    named_tried(sheet, second, journal, desk, input, at)
+    named_tried(sheet, second, third, journal, desk, input, at)
 }
 
-// Tries every row, at most 1,000.
-fn all_tried(sheet: &[u8], second: &[u8], journal: &[u8], input: &[u8]) {
+// Tries every row, at most 1,600.
+fn all_tried(sheet: &[u8], second: &[u8], third: &[u8], journal: &[u8], input: &[u8]) {
     let mut desk = [7u8; ROOM];
     let mut at: usize = 0;
     let mut i: usize = 0;
-    while i < 1000 {
-        at = line_tried(sheet, second, journal, &mut desk, input, at);
+    while i < 1600 {
+        at = line_tried(sheet, second, third, journal, &mut desk, input, at);
         i += 1;
     }
 }
@@ -97,11 +113,13 @@ fn all_tried(sheet: &[u8], second: &[u8], journal: &[u8], input: &[u8]) {
 fn main() {
     let mut sheet = [0u8; SHEET + 1];
     let mut second = [0u8; 128];
+    let mut third = [0u8; 256];
     let mut journal = [0u8; 1024];
-    let mut input = [b'\n'; 40960];
+    let mut input = [b'\n'; 65536];
     files::read_file(b"sheet", &mut sheet);
     let m = files::read_file(b"second", &mut second);
+    let k = files::read_file(b"third", &mut third);
     let n = files::read_file(b"journal", &mut journal);
     io::read_full(0, &mut input);
-    all_tried(&sheet, &second[..m], &journal[..n], &input);
+    all_tried(&sheet, &second[..m], &third[..k], &journal[..n], &input);
 }

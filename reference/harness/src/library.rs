@@ -104,7 +104,7 @@ pub fn write_sheet(values: &[u8; VALUES], buffer: &mut [u8]) -> u8 {
     unsafe { c::trial_write_sheet(values.as_ptr(), values.len(), buffer.as_mut_ptr(), buffer.len()) }
 }
 
-/// 1 where the set splits a crossover of a station by its values (`trial`), else 0.
+/// 1 where the set splits a group of a station by its values (`trial`), else 0.
 pub fn splits(values: &[u8; VALUES], set: Set) -> u8 {
     unsafe { c::trial_splits(values.as_ptr(), values.len(), set) }
 }

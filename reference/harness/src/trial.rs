@@ -1,4 +1,4 @@
-//! A station as the comparison hands it to the library's writer and to its test for split crossovers: 2,315 bytes.
+//! A station as the comparison hands it to the library's writer and to its test for split groups: 2,315 bytes.
 //! The first 2,312 are laid out as a sheet of 64 turnouts and 64 routes is; then come the station's own counts P, R and
 //! Z, any bytes.
 
@@ -25,7 +25,7 @@ pub fn station(values: &[u8; VALUES]) -> RawStation {
     let [.., turnouts, routes, zones] = *values;
     let mut station = RawStation { turnouts, routes, zones, ..RawStation::empty() };
     for (record, bytes) in station.turnout_records.iter_mut().zip(values[HEADER..ROUTES_AT].chunks_exact(TURNOUT)) {
-        *record = RawTurnout { zone: bytes[0], partner: bytes[1], drive: bytes[2] };
+        *record = RawTurnout { zone: bytes[0], group: bytes[1], drive: bytes[2] };
     }
     for (record, bytes) in station.route_records.iter_mut().zip(values[ROUTES_AT..COUNTS_AT].chunks_exact(ROUTE)) {
         *record = sheet::route_fields(bytes);
@@ -65,9 +65,9 @@ mod tests {
                 }
             }
         }
-        // Z from 2 to 8; turnout 2 electric; in route 0 run over {1} or {0,1}, flank {}, exit zone {1}, reverse {0},
-        // {2} or {0,2}.
-        assert_eq!(written_stations, 7 + 1 + 7);
+        // Z from 2 to 8; P from 4 to 9, the turnouts past 2 with 0 and 1 in group 0; turnout 2 electric; in route 0 run
+        // over {1} or {0,1}, flank {}, exit zone {1}, reverse {0}, {2} or {0,2}.
+        assert_eq!(written_stations, 7 + 6 + 1 + 7);
     }
 
     #[test]
@@ -78,10 +78,10 @@ mod tests {
         }
         let station = station(&given);
         let again = values(&station);
-        assert_eq!(again[..7], *b"SPT\x00\x01\x40\x40");
+        assert_eq!(again[..7], *b"SPT\x00\x02\x40\x40");
         assert_eq!(again[8..], given[8..]);
         assert_eq!((station.turnouts, station.routes, station.zones), (given[2312], given[2313], given[2314]));
-        let last = RawTurnout { zone: given[197], partner: given[198], drive: given[199] };
+        let last = RawTurnout { zone: given[197], group: given[198], drive: given[199] };
         assert_eq!(station.turnout_records[63], last);
     }
 }

@@ -1,13 +1,27 @@
 //! Stations, messages and journals for tests, stored cases and random inputs; station K among them.
 
 use crate::drafts::{journal_of, Sheet};
+use crate::group::ALONE;
 use crate::message::Message;
 use crate::set;
-use crate::sheet::{ELECTRIC, HAND, NO_PARTNER};
+use crate::sheet::{ELECTRIC, HAND};
 
 /// K-1: "0 and 1 an electric crossover, 2 alone by hand; route 0 runs over {0}, flank {2}, reverse empty".
 pub fn station_k() -> Sheet {
     Sheet::new(1).crossover(0, ELECTRIC).turnout(0, HAND).route(0, &[0], &[2], &[], &[])
+}
+
+/// K-1: "A sheet of version 2, in which 0 and 1 are group 0, gives the same station".
+pub fn station_k_in_version_2() -> Sheet {
+    Sheet::of_version_2(1).group(0, ELECTRIC, 2).turnout(0, HAND).route(0, &[0], &[2], &[], &[])
+}
+
+/// Version 2: three by hand tied by keys (0, 1, 2), an electric crossover (3, 4), eight by hand (5 to 12), 13 alone.
+/// Route 0 runs over 0 and 3 to 6, flank none, exit zone 1 and 13, reverse 1 and 6. Route 1 runs over 13 and has the
+/// groups of three and of two in its flank, turnouts 0 and 5 reverse; 5 is in its exit zone.
+pub fn group_station() -> Sheet {
+    let sheet = Sheet::of_version_2(1).group(0, HAND, 3).group(0, ELECTRIC, 2).group(0, HAND, 8).turnout(0, ELECTRIC);
+    sheet.route(0, &[0, 3, 4, 5, 6], &[], &[1, 13], &[1, 6]).route(0, &[13], &[0, 1, 2, 3, 4], &[5], &[0, 5])
 }
 
 /// Electric crossovers 0-1 and 2-3, 4 by hand, 5 electric. Route 0 runs over 0 and 5, flank 2 and 3, exit zone 4; 1 is
@@ -25,9 +39,17 @@ pub fn exit_zone_station() -> Sheet {
 /// 64 turnouts, 64 routes, 8 zones. Zone z has turnouts 8z to 8z + 7: two crossovers (the first electric, the second
 /// by hand), then four alone. Each zone has eight routes.
 pub fn largest_station() -> Sheet {
-    let mut sheet = Sheet::new(8);
+    largest(Sheet::new(8), Sheet::crossover)
+}
+
+/// The same station by a sheet of version 2: the crossovers of zone z are groups 2z and 2z + 1.
+pub fn largest_station_in_version_2() -> Sheet {
+    largest(Sheet::of_version_2(8), |sheet, zone, drive| sheet.group(zone, drive, 2))
+}
+
+fn largest(mut sheet: Sheet, crossover: fn(Sheet, u8, u8) -> Sheet) -> Sheet {
     for zone in 0..8 {
-        sheet = sheet.crossover(zone, ELECTRIC).crossover(zone, HAND);
+        sheet = crossover(crossover(sheet, zone, ELECTRIC), zone, HAND);
         sheet = sheet.turnout(zone, ELECTRIC).turnout(zone, HAND).turnout(zone, ELECTRIC).turnout(zone, HAND);
     }
     for n in 0..64 {
@@ -46,7 +68,8 @@ pub fn largest_station() -> Sheet {
 
 /// So many turnouts, each alone, and so many routes over turnout 0, in one zone: good if the counts are.
 pub fn plain_station(turnouts: usize, routes: usize) -> Sheet {
-    Sheet { zones: 1, turnouts: vec![[0, NO_PARTNER, ELECTRIC]; turnouts], routes: vec![(0, [1, 0, 0, 0]); routes] }
+    let (turnouts, routes) = (vec![[0, ALONE, ELECTRIC]; turnouts], vec![(0, [1, 0, 0, 0]); routes]);
+    Sheet { turnouts, routes, ..Sheet::new(1) }
 }
 
 /// 16 turnouts, 8 routes, 2 zones, the most that the cabin panel takes: the largest station's zones 0 and 1, with four
@@ -54,7 +77,7 @@ pub fn plain_station(turnouts: usize, routes: usize) -> Sheet {
 pub fn largest_panel_station() -> Sheet {
     let all = largest_station();
     let routes = [&all.routes[..4], &all.routes[8..12]].concat();
-    Sheet { zones: 2, turnouts: all.turnouts[..16].to_vec(), routes }
+    Sheet { turnouts: all.turnouts[..16].to_vec(), routes, ..Sheet::new(2) }
 }
 
 /// K-2: the eleven records, all zone 0.
@@ -96,8 +119,8 @@ impl Message {
         Message { b: set::of(turnouts), ..self }
     }
 
-    /// A clearance that covers both ends. FIT-4.
-    pub fn both_ends(self) -> Message {
+    /// A clearance that covers the whole group. FIT-4.
+    pub fn whole_group(self) -> Message {
         self.d(5, 1)
     }
 

@@ -1,5 +1,5 @@
 //! Clearances of turnouts for a train: what fits (20, KIND-6.4), by which channel (21, KIND-6.5). FIT-1, FIT-2, FIT-3:
-//! "Clearances fit (20) when .."; FIT-4: both ends of a crossover.
+//! "Clearances fit (20) when .."; FIT-4: the whole group.
 
 use crate::set::holds;
 use crate::station::{Drive, Route};
@@ -31,18 +31,18 @@ pub struct Clearance {
     pub position: Position,
     pub clamp: Clamp,
     pub channel: Channel,
-    /// FIT-4: "1 says the declaration covers both ends".
-    pub covers_both_ends: bool,
+    /// FIT-4: "By 1 the maintainer says that the declaration covers the whole group".
+    pub covers_group: bool,
 }
 
 impl Clearance {
     /// FIT-1, FIT-2, FIT-3: "Clearances fit (20) when d2 is the route's position, d1 fits the drive .. and so does d3."
-    /// FIT-4: "A clearance breaking this gets 20".
-    pub fn fits(&self, route: &Route, drive: Drive, has_partner: bool) -> bool {
+    /// FIT-4: "0 or 1 where the other is due is 20".
+    pub fn fits(&self, route: &Route, drive: Drive, in_group: bool) -> bool {
         self.position == route.position(self.turnout)
             && self.fits_drive(drive)
             && self.clamp_fits(holds(route.run_over, self.turnout))
-            && self.ends_fit(has_partner)
+            && self.cover_fits(in_group)
     }
 
     /// FIT-2: "1, 2 either; 3-6 electric; 7-9 hand; Annex C".
@@ -63,9 +63,10 @@ impl Clearance {
         }
     }
 
-    /// FIT-4: "Declarations 1 and 2 on a turnout with a partner need d5 = 1. In every other clearance d5 is 0."
-    pub fn ends_fit(&self, has_partner: bool) -> bool {
-        self.covers_both_ends == (has_partner && self.all_efficient())
+    /// FIT-4: "with declaration 1 or 2 on a turnout of a group, of whatever size, d5 is 1; in every other clearance d5
+    /// is 0".
+    pub fn cover_fits(&self, in_group: bool) -> bool {
+        self.covers_group == (in_group && self.all_efficient())
     }
 
     /// FIT-5: "Declarations 1 and 2 mean all efficient".

@@ -73,20 +73,20 @@ impl<'m> History<'m> {
     }
 
     /// HIST-7: "Clearance for that train, in the route's position, all efficient: after that 5 a 6 naming the turnout,
-    /// with the same id, d2 1 if in the route's reverse and else 0, declaration 1 or 2." "'All efficient' in the
-    /// history of a movement then also needs d5 = 1 on a turnout with a partner."
+    /// with the same id, d2 1 if in the route's reverse and else 0, declaration 1 or 2"; "and, on a turnout of a
+    /// group, d5 1".
     pub fn good_clearance(&self, station: &Station, turnout: u8) -> bool {
         let (Some(asked), Some(route)) = (self.standing_at(), self.route(station)) else {
             return false;
         };
         let position = u8::from(holds(route.reverse, turnout));
-        let has_partner = station.has_partner(turnout);
+        let in_group = station.in_group(turnout);
         self.after(asked).iter().any(|message| {
             clears(message, turnout)
                 && message.id == self.0[asked].id
                 && message.d[2] == position
                 && matches!(message.d[1], 1 | 2)
-                && (!has_partner || message.d[5] == 1)
+                && (!in_group || message.d[5] == 1)
         })
     }
 

@@ -6,9 +6,9 @@
 
 pub mod builders;
 pub mod clearance;
-pub mod crossover;
 pub mod desk;
 pub mod drafts;
+pub mod group;
 pub mod history;
 pub mod journal;
 pub mod keys;

@@ -144,12 +144,12 @@ impl Message {
                     _ => return None,
                 };
                 // RECORD-3: "In a clearance d5 becomes a field of 0 or 1"; FIT-4: "a d5 above 1 gets 13".
-                let covers_both_ends = match d5 {
+                let covers_group = match d5 {
                     0 => false,
                     1 => true,
                     _ => return None,
                 };
-                Content::Cleared(Clearance { turnout, declaration, position, clamp, channel, covers_both_ends })
+                Content::Cleared(Clearance { turnout, declaration, position, clamp, channel, covers_group })
             }
             (7, 0, 0, [1, 0, 0, 0, 0, 0]) => Content::Ordered(Aspect::Clear),
             (7, 0, 0, [2, 0, 0, 0, 0, 0]) => Content::Ordered(Aspect::Danger),

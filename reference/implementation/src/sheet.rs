@@ -1,12 +1,17 @@
-//! Reading of the station sheet, SHEET-1 to SHEET-11. The cabin panel reads it with limits of its own (`panel`).
+//! Reading of the station sheet, SHEET-1 to SHEET-14. The turnout records of its two versions stand in `version_1` and
+//! `version_2`. The cabin panel reads it with limits of its own (`panel`).
 
-use crate::set::{holds, members, Set};
-use crate::station::{Drive, Route, Station, Turnout};
+mod version_1;
+mod version_2;
+
+use crate::group::Groups;
+use crate::set::{members, Set};
+use crate::station::{Drive, Route, Station};
+pub use version_1::NO_PARTNER;
 
 pub const HEADER: usize = 8;
 pub const TURNOUT: usize = 3;
 pub const ROUTE: usize = 33;
-pub const NO_PARTNER: u8 = 255;
 pub const ELECTRIC: u8 = 0;
 pub const HAND: u8 = 1;
 
@@ -19,6 +24,9 @@ pub struct Limits {
 
 /// PANEL-1: "the desk keeps 64 and 64", the most that a sheet has.
 const DESK: Limits = Limits { turnouts: 64, routes: 64 };
+
+/// Zone; partner in version 1, the group's number in version 2; drive.
+type TurnoutRecord = [u8; TURNOUT];
 
 /// Why a sheet is refused; a bad record comes with its index.
 #[derive(Clone, Copy, Debug, PartialEq, Eq)]
@@ -70,9 +78,11 @@ pub(crate) fn read_within(sheet: &[u8], limits: Limits) -> Result<Station, Sheet
     if [s, p, t] != *b"SPT" {
         return Err(SheetFault::Mark);
     }
-    if u16::from_be_bytes([version_high, version_low]) != 1 {
-        return Err(SheetFault::Version);
-    }
+    let read_turnouts = match u16::from_be_bytes([version_high, version_low]) {
+        1 => version_1::read_turnouts,
+        2 => version_2::read_turnouts,
+        _ => return Err(SheetFault::Version),
+    };
     if !(1..=64).contains(&turnouts) || routes > 64 || !(1..=8).contains(&zones) {
         return Err(SheetFault::Counts);
     }
@@ -84,14 +94,14 @@ pub(crate) fn read_within(sheet: &[u8], limits: Limits) -> Result<Station, Sheet
         return Err(SheetFault::Length);
     }
     let (turnout_records, route_records) = records.split_at(turnout_bytes);
-    let mut station = Station { zones, turnouts: Vec::new(), routes: Vec::new() };
-    for n in 0..turnouts {
-        let turnout = read_turnout(turnout_records, n, zones).ok_or(SheetFault::Turnout(n))?;
-        station.turnouts.push(turnout);
-    }
+    let turnout_records: Vec<TurnoutRecord> =
+        turnout_records.chunks_exact(TURNOUT).map(|record| [record[0], record[1], record[2]]).collect();
+    let turnouts = read_turnouts(&turnout_records, zones)?;
+    let mut station = Station { zones, turnouts, routes: Vec::new() };
+    let groups = station.groups();
     for (n, record) in (0..routes).zip(route_records.chunks_exact(ROUTE)) {
         let route = route_fields(record);
-        if !route_fits(&route, &station) {
+        if !route_fits(&route, &station, &groups) {
             return Err(SheetFault::Route(n));
         }
         station.routes.push(route);
@@ -99,39 +109,18 @@ pub(crate) fn read_within(sheet: &[u8], limits: Limits) -> Result<Station, Sheet
     Ok(station)
 }
 
-fn record_of(records: &[u8], n: u8) -> Option<[u8; TURNOUT]> {
-    records.chunks_exact(TURNOUT).nth(usize::from(n))?.try_into().ok()
+/// SHEET-2: "zone, below Z".
+fn zone_of(zone: u8, zones: u8) -> Option<u8> {
+    (zone < zones).then_some(zone)
 }
 
-/// Turnout record `n`, judged against its partner's bytes in the sheet.
-fn read_turnout(records: &[u8], n: u8, zones: u8) -> Option<Turnout> {
-    let [zone, partner, drive] = record_of(records, n)?;
-    if zone >= zones {
-        return None;
+/// SHEET-2: "drive, 0 electric or 1 hand with key lock".
+fn drive_of(drive: u8) -> Option<Drive> {
+    match drive {
+        ELECTRIC => Some(Drive::Electric),
+        HAND => Some(Drive::Hand),
+        _ => None,
     }
-    let partner = match partner {
-        NO_PARTNER => None,
-        other if partner_fits(records, n, other) => Some(other),
-        _ => return None,
-    };
-    let drive = match drive {
-        ELECTRIC => Drive::Electric,
-        HAND => Drive::Hand,
-        _ => return None,
-    };
-    Some(Turnout { zone, partner, drive })
-}
-
-/// SHEET-3: "A partner is below P, not itself, names it back, and has the same zone and drive."
-fn partner_fits(records: &[u8], n: u8, partner: u8) -> bool {
-    let (Some(own), Some(other)) = (record_of(records, n), record_of(records, partner)) else {
-        return false;
-    };
-    let not_itself = partner != n;
-    let names_back = other[1] == n;
-    let same_zone = other[0] == own[0];
-    let same_drive = other[2] == own[2];
-    not_itself && names_back && same_zone && same_drive
 }
 
 /// SHEET-4: "Then R routes of 33 bytes: zone, then the sets run over, flank, exit zone, reverse."
@@ -141,13 +130,13 @@ pub fn route_fields(record: &[u8]) -> Route {
     Route { zone: record[0], run_over: set(1), flank: set(9), exit_zone: set(17), reverse: set(25) }
 }
 
-fn route_fits(route: &Route, station: &Station) -> bool {
+fn route_fits(route: &Route, station: &Station, groups: &Groups) -> bool {
     pairwise_disjoint(route)
         && lies_in_zone(route, station)
         && route.run_over != 0
         && reverse_within_union(route)
-        && flank_with_partner(route, station)
-        && same_position(route, station)
+        && flank_takes_groups_whole(route, groups)
+        && same_position(route, groups)
 }
 
 /// SHEET-5: "The first three are pairwise disjoint".
@@ -167,31 +156,17 @@ pub fn reverse_within_union(route: &Route) -> bool {
     route.reverse & !route.named() == 0
 }
 
-/// SHEET-8: "A flank turnout's partner is flank too (Art. 3.24)."
-pub fn flank_with_partner(route: &Route, station: &Station) -> bool {
-    !station.splits_crossover(route.flank)
+/// SHEET-8: "The flank takes a group whole or not at all: the whole group of a flank turnout is flank (Art. 3.24)."
+pub fn flank_takes_groups_whole(route: &Route, groups: &Groups) -> bool {
+    !groups.splits(route.flank)
 }
 
-/// SHEET-9: "Both ends of a crossover, if named, have the same position."
-pub fn same_position(route: &Route, station: &Station) -> bool {
-    (0u8..).zip(&station.turnouts).all(|(n, turnout)| match turnout.partner {
-        Some(partner) if holds(route.named(), n) && holds(route.named(), partner) => {
-            route.position(n) == route.position(partner)
-        }
-        _ => true,
-    })
+/// SHEET-9: "The turnouts of a group of two, where both are named, have the same position. Of larger groups nothing is
+/// asked here".
+pub fn same_position(route: &Route, groups: &Groups) -> bool {
+    let both_named = |ends: Set| ends.count_ones() == 2 && ends & !route.named() == 0;
+    groups.iter().filter(|&(_, ends)| both_named(ends)).all(|(_, ends)| [0, ends].contains(&(route.reverse & ends)))
 }
 
 #[cfg(test)]
-mod tests {
-    use super::*;
-    use crate::builders::station_k;
-
-    #[test]
-    fn sheet_of_station_k_has_50_bytes() {
-        let sheet = station_k().bytes();
-        assert_eq!(sheet.len(), 50);
-        assert_eq!(read(&sheet[..49]), Err(SheetFault::Length));
-        assert_eq!(read(&[&sheet[..], &[0]].concat()), Err(SheetFault::Length));
-    }
-}
+mod tests;

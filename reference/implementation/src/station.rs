@@ -1,8 +1,8 @@
 //! The station that an accepted sheet gives: turnouts, routes, zones.
 
 use crate::clearance::Position;
-use crate::crossover;
-use crate::set::{holds, members, only, Set};
+use crate::group::{Groups, ALONE};
+use crate::set::{holds, only, Set};
 
 #[derive(Clone, Copy, Debug, PartialEq, Eq)]
 pub enum Drive {
@@ -14,8 +14,8 @@ pub enum Drive {
 #[derive(Clone, Debug, PartialEq, Eq)]
 pub struct Turnout {
     pub zone: u8,
-    /// The other end of a crossover.
-    pub partner: Option<u8>,
+    /// The number of its group, 0 to 31; none where it is alone.
+    pub group: Option<u8>,
     pub drive: Drive,
 }
 
@@ -61,41 +61,46 @@ impl Station {
         numbered.filter(|(_, turnout)| turnout.zone == zone).fold(0, |set, (n, _)| set | only(n))
     }
 
-    /// FIT-4: "a turnout with a partner". By the station alone, VALUE-2: the turnout is below P, and so is the partner
-    /// that it names.
-    pub fn has_partner(&self, n: u8) -> bool {
-        let partner = self.turnout(n).and_then(|turnout| turnout.partner);
-        partner.is_some_and(|partner| self.turnout(partner).is_some())
+    /// The groups among its turnouts, as their numbers stand.
+    pub fn groups(&self) -> Groups {
+        Groups::of(self.turnouts.iter().map(|turnout| turnout.group.unwrap_or(ALONE)))
     }
 
-    /// The turnouts of a set that have a partner, each with it.
-    pub fn pairs(&self, set: Set) -> impl Iterator<Item = (u8, u8)> + '_ {
-        members(set).filter_map(|n| Some((n, self.turnout(n)?.partner?)))
+    /// FIT-4: "a turnout of a group, of whatever size". By the station alone.
+    pub fn in_group(&self, n: u8) -> bool {
+        self.groups().of_turnout(n) != 0
     }
 
-    /// The partners in a sheet name each other back, so that the turnouts of the set are enough to look at.
-    pub fn splits_crossover(&self, set: Set) -> bool {
-        crossover::splits(self.pairs(set), set)
+    /// KIND-1.2, KIND-10.2: does the set split a group?
+    pub fn splits_group(&self, set: Set) -> bool {
+        self.groups().splits(set)
     }
 }
 
 #[cfg(test)]
 mod tests {
     use super::*;
-    use crate::builders::station_k;
+    use crate::builders::{station_k, station_k_in_version_2};
     use crate::sheet;
 
-    /// A partner not below P reads as none. In a station that no sheet gave, a turnout that names itself or is not
-    /// named back has one.
     #[test]
-    fn turnouts_with_a_partner() {
+    fn turnouts_of_groups() {
+        for k in [station_k(), station_k_in_version_2()] {
+            let k = sheet::read(&k.bytes()).expect("station K reads");
+            assert_eq!([0, 1, 2, 3, 63, 255].map(|n| k.in_group(n)), [true, true, false, false, false, false]);
+        }
+    }
+
+    /// In a station that no sheet gave, VALUE-2: number 40 and a number that one turnout carries read as alone.
+    #[test]
+    fn odd_numbers() {
         let k = sheet::read(&station_k().bytes()).expect("station K reads");
-        assert_eq!([0, 1, 2, 3, 63, 255].map(|n| k.has_partner(n)), [true, true, false, false, false, false]);
-        let turnout = |partner| Turnout { zone: 0, partner, drive: Drive::Electric };
-        let turnouts = [Some(0), Some(3), Some(4), None, Some(255)].map(turnout);
-        let odd = Station { turnouts: turnouts[..4].to_vec(), ..k.clone() };
-        assert_eq!([0, 1, 2, 3, 4].map(|n| odd.has_partner(n)), [true, true, false, false, false]);
+        let turnout = |group| Turnout { zone: 0, group, drive: Drive::Electric };
+        let turnouts = [Some(40), Some(40), Some(3), Some(31), Some(31), None, None, Some(255), Some(255)].map(turnout);
         let odd = Station { turnouts: turnouts.to_vec(), ..k };
-        assert_eq!([0, 1, 2, 3, 4, 5].map(|n| odd.has_partner(n)), [true, true, true, false, false, false]);
+        let grouped: Vec<u8> = (0..=255).filter(|&n| odd.in_group(n)).collect();
+        assert_eq!(grouped, [3, 4]);
+        let below = Station { turnouts: turnouts[..4].to_vec(), ..odd };
+        assert!(!(0..=255).any(|n| below.in_group(n))); // the second carrier of 31 is not below P
     }
 }

@@ -1,10 +1,10 @@
 //! Writing of the station sheet. WRITE-1, WRITE-2: "It turns a station into sheet bytes in a lent buffer, so that
-//! reading them yields that station, and a sheet that was read and written comes out byte for byte."
+//! reading them yields that station"; "A sheet of version 2 that is read and written comes out byte for byte."
 
-use crate::crossover;
+use crate::group::{Groups, ALONE};
 use crate::refusal::{number, Refusal};
 use crate::set::Set;
-use crate::sheet::{self, ELECTRIC, HAND, HEADER, NO_PARTNER, ROUTE, TURNOUT};
+use crate::sheet::{self, ELECTRIC, HAND, HEADER, ROUTE, TURNOUT};
 use crate::station::{Drive, Route, Station, Turnout};
 
 /// Records of each sort in a station, those past its counts included.
@@ -14,7 +14,7 @@ pub const RECORDS: usize = 64;
 #[derive(Clone, Copy, Debug, Default, PartialEq, Eq)]
 pub struct RawTurnout {
     pub zone: u8,
-    pub partner: u8,
+    pub group: u8,
     pub drive: u8,
 }
 
@@ -48,17 +48,14 @@ impl RawStation {
         HEADER + TURNOUT * usize::from(self.turnouts) + ROUTE * usize::from(self.routes)
     }
 
-    /// The turnouts below P that have a partner, each with it. VALUE-1, VALUE-2: "a count over its limit is read as the
-    /// limit, a partner not below P as none".
-    pub fn pairs(&self) -> impl Iterator<Item = (u8, u8)> + '_ {
-        let turnouts = self.turnouts.min(RECORDS as u8);
-        let named = (0..turnouts).zip(&self.turnout_records).map(|(n, record)| (n, record.partner));
-        named.filter(move |&(_, partner)| partner < turnouts)
+    /// The groups among the turnouts below P, as their numbers stand. VALUE-1: "A count over its limit is read as the
+    /// limit".
+    pub fn groups(&self) -> Groups {
+        Groups::of(self.turnout_records.iter().take(usize::from(self.turnouts)).map(|turnout| turnout.group))
     }
 
-    /// Every turnout below P is looked at, since a partner need not name it back.
-    pub fn splits_crossover(&self, set: Set) -> bool {
-        crossover::splits(self.pairs(), set)
+    pub fn splits_group(&self, set: Set) -> bool {
+        self.groups().splits(set)
     }
 }
 
@@ -81,13 +78,13 @@ impl From<&Station> for RawStation {
     }
 }
 
-/// SHEET-2: "partner (the other end of a crossover, or 255 for none); drive (0 electric, 1 hand with key lock)".
+/// SHEET-2: "the number of its group, 0 to 31, or 255 for alone ..; drive, 0 electric or 1 hand with key lock".
 fn raw_turnout(turnout: &Turnout) -> RawTurnout {
     let drive = match turnout.drive {
         Drive::Electric => ELECTRIC,
         Drive::Hand => HAND,
     };
-    RawTurnout { zone: turnout.zone, partner: turnout.partner.unwrap_or(NO_PARTNER), drive }
+    RawTurnout { zone: turnout.zone, group: turnout.group.unwrap_or(ALONE), drive }
 }
 
 /// WRITE-3, WRITE-4: "Turned away: 7, a station that, as it stands, no sheet describes; then 8, a buffer shorter than
@@ -110,16 +107,17 @@ fn sheet_of(station: &RawStation) -> Option<Vec<u8>> {
     described.then_some(sheet)
 }
 
-/// SHEET-1, SHEET-2, SHEET-4: "the letters SPT, version (16 bits, 1), counts P of turnouts .., R of routes .., Z of
-/// zones .., a byte each. Then P turnout records of 3 bytes: zone ..; partner ..; drive .. Then R routes of 33 bytes:
-/// zone, then the sets run over, flank, exit zone, reverse." Any counts and any records.
+/// WRITE-1: "of version 2". SHEET-1, SHEET-2, SHEET-4: "the letters SPT; version, 16 bits ..; the counts P of turnouts
+/// .., R of routes .. and Z of zones .., a byte each. Then P turnout records of 3 bytes: zone ..; the number of its
+/// group ..; drive .. Then R routes of 33 bytes: zone, then the sets run over, flank, exit zone and reverse." Any
+/// counts and any records.
 pub fn lay_out(counts: [u8; 3], turnouts: &[RawTurnout], routes: &[Route]) -> Vec<u8> {
     let mut sheet = Vec::with_capacity(HEADER + TURNOUT * turnouts.len() + ROUTE * routes.len());
     sheet.extend(b"SPT");
-    sheet.extend(1u16.to_be_bytes());
+    sheet.extend(2u16.to_be_bytes());
     sheet.extend(counts);
     for turnout in turnouts {
-        sheet.extend([turnout.zone, turnout.partner, turnout.drive]);
+        sheet.extend([turnout.zone, turnout.group, turnout.drive]);
     }
     for route in routes {
         sheet.push(route.zone);
@@ -138,8 +136,9 @@ fn zeros_past_counts(station: &RawStation) -> bool {
         && past_routes.all(|route| *route == Route::default())
 }
 
-/// A sheet read from one buffer and written into another: code and index of the bad record. The sheet's numbers come
-/// first, then 8; never 7, since the station was read. A refusal leaves the buffer as it was.
+/// WRITE-5: a sheet of either version read from one buffer and written into another, in version 2; code and index of
+/// the bad record. The sheet's numbers come first, then 8; never 7, since the station was read. A refusal leaves the
+/// buffer as it was.
 pub fn copy_sheet(sheet: &[u8], buffer: &mut [u8]) -> [u8; 2] {
     match sheet::read(sheet) {
         Ok(station) => [number(&write(&RawStation::from(&station), buffer)), 0],

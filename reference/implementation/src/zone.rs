@@ -53,12 +53,12 @@ impl<'s> Zone<'s> {
         Ok(0)
     }
 
-    /// KIND-1.1, KIND-1.2: "16 work in zone; 17 a empty, outside the zone or splitting a crossover". Then KIND-1.3.
+    /// KIND-1.1, KIND-1.2: "16 work in zone; 17 a empty, outside the zone or splitting a group". Then KIND-1.3.
     fn work_asked(&mut self, station: &Station, zone: u8, works: Works) -> Result<(), Refusal> {
         refuse(self.work != Work::None, Refusal::Occupied)?;
         let empty = works.turnouts == 0;
         let outside = works.turnouts & !station.of_zone(zone) != 0;
-        let splitting = station.splits_crossover(works.turnouts);
+        let splitting = station.splits_group(works.turnouts);
         refuse(empty || outside || splitting, Refusal::Place)?;
         self.work = Work::Asked(works);
         Ok(())
@@ -128,7 +128,7 @@ impl<'s> Zone<'s> {
         let n = clearance.turnout;
         let mut train = self.unsettled(id, n)?;
         let turnout = station.turnout(n).ok_or(Refusal::Place)?;
-        refuse(!clearance.fits(train.route, turnout.drive, station.has_partner(n)), Refusal::Unfit)?;
+        refuse(!clearance.fits(train.route, turnout.drive, station.in_group(n)), Refusal::Unfit)?;
         refuse(!clearance.channel_fits(self.recorder_working), Refusal::Channel)?;
         train.cleared |= only(n);
         if clearance.all_efficient() {
@@ -181,11 +181,11 @@ impl<'s> Zone<'s> {
     }
 
     /// KIND-10.1, KIND-10.2, KIND-10.3, KIND-10.4, KIND-10.5: "15; 17 a empty, not a proper part of the work, or
-    /// splitting a crossover; 18 not agreed; 19; 22 under M.45 (2.13)". KIND-10.6: "a leaves the work, shut to work".
+    /// splitting a group; 18 not agreed; 19; 22 under M.45 (2.13)". KIND-10.6: "a leaves the work, shut to work".
     fn part_restored(&mut self, station: &Station, id: u32, part: Set) -> Result<(), Refusal> {
         let works = self.work.under(id)?;
         let proper_part = part & !works.turnouts == 0 && part != works.turnouts;
-        let splitting = station.splits_crossover(part);
+        let splitting = station.splits_group(part);
         refuse(part == 0 || !proper_part || splitting, Refusal::Place)?;
         let Work::Agreed { works, .. } = &mut self.work else {
             return Err(Refusal::Stage);

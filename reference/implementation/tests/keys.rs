@@ -45,7 +45,7 @@ fn with(mut list: Vec<Message>, more: &[Message]) -> Vec<Message> {
 
 /// Turnout 0, a run-over crossover's end, cleared as all efficient; 5 likewise, alone.
 fn run_over_cleared() -> [Message; 2] {
-    [cleared(TRAIN, [0, 1, 0, 0, 1]).both_ends(), cleared(TRAIN, [5, 2, 0, 0, 1])]
+    [cleared(TRAIN, [0, 1, 0, 0, 1]).whole_group(), cleared(TRAIN, [5, 2, 0, 0, 1])]
 }
 
 /// The desk after a list of accepted messages.

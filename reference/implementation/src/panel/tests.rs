@@ -1,11 +1,13 @@
 //! The cabin panel's reading: its limits, their place in the order of checks, and the desk's reading beside it.
 //! PANEL-1, PANEL-2, PANEL-3.
 
-use crate::builders::{largest_panel_station, largest_station, plain_station, station_k};
+use crate::builders::{
+    group_station, largest_panel_station, largest_station, plain_station, station_k, station_k_in_version_2,
+};
 use crate::drafts::Sheet;
 use crate::refusal::number;
 use crate::replay::sheet_number;
-use crate::sheet::ELECTRIC;
+use crate::sheet::{ELECTRIC, HAND};
 use crate::writer::{write, RawStation};
 use crate::{panel, sheet};
 
@@ -51,6 +53,9 @@ fn within_the_limits() {
     for sheet in [station_k(), largest_panel_station(), Sheet::new(8).turnout(7, ELECTRIC)] {
         both_accept(&sheet);
     }
+    for sheet in [station_k_in_version_2(), group_station(), Sheet::of_version_2(8).group(7, HAND, 8)] {
+        both_accept(&sheet);
+    }
     for (turnouts, routes) in [(16, 8), (16, 0), (1, 8), (1, 0), (15, 7)] {
         both_accept(&plain_station(turnouts, routes));
     }
@@ -64,6 +69,24 @@ fn beyond_the_limits() {
         beyond((0, 0), &plain_station(turnouts, routes).bytes());
     }
     beyond((0, 0), &largest_station().bytes());
+}
+
+/// PANEL-1: "of both versions". 9 comes before anything of the records, in both.
+#[test]
+fn both_versions() {
+    for version in [1, 2] {
+        let plain = |turnouts, routes| Sheet { version, ..plain_station(turnouts, routes) };
+        both_accept(&plain(16, 8));
+        for sheet in [plain(17, 8), plain(16, 9)] {
+            beyond((0, 0), &sheet.bytes());
+            beyond((1, 0), &sheet.bytes()[..8]);
+            beyond((5, 0), &with(&sheet, 9, 0)); // its own partner; number 0 alone
+            both_refuse(3, 0, &with(&sheet, 3, 1));
+            both_refuse(4, 0, &with(&sheet, 5, 65));
+        }
+        both_refuse(5, 15, &with(&plain(16, 8), 8 + 3 * 15 + 1, 32));
+    }
+    both_refuse(5, 0, &Sheet::of_version_2(1).group(0, HAND, 9).bytes());
 }
 
 /// PANEL-2: "before the length".
@@ -86,7 +109,7 @@ fn after_the_counts() {
     let seventeen = plain_station(17, 9);
     both_refuse(1, 0, &seventeen.bytes()[..7]);
     both_refuse(2, 0, &with(&seventeen, 2, b't'));
-    both_refuse(3, 0, &with(&seventeen, 4, 2));
+    both_refuse(3, 0, &with(&seventeen, 4, 3));
     both_refuse(3, 0, &with(&seventeen, 3, 1));
     for (at, count) in [(5, 0), (5, 65), (5, 255), (6, 65), (6, 255), (7, 0), (7, 9)] {
         both_refuse(4, 0, &with(&seventeen, at, count));
@@ -114,14 +137,16 @@ fn refusals_within_the_limits() {
 fn every_count() {
     for turnouts in 0..=255 {
         for routes in 0..=255 {
-            let header = [b'S', b'P', b'T', 0, 1, turnouts, routes, 8];
+            let headers = [1, 2].map(|version| [b'S', b'P', b'T', 0, version, turnouts, routes, 8]);
             let code = match (turnouts, routes) {
                 (0 | 65.., _) | (_, 65..) => 4,
                 (17.., _) | (_, 9..) => 9,
                 _ => 1,
             };
             let desk = if code == 4 { 4 } else { 1 };
-            assert_eq!(answers(&header), [(desk, 0), (code, 0)], "{turnouts} turnouts, {routes} routes");
+            for header in headers {
+                assert_eq!(answers(&header), [(desk, 0), (code, 0)], "{turnouts} turnouts, {routes} routes");
+            }
         }
     }
 }

@@ -33,7 +33,7 @@ fn own() -> Vec<Message> {
         detection_off(7, &[0, 1], &[]).at(120),
         movement_asked(512, 0).at(130),
         ordered(512, 1).at(131), // held
-        cleared(512, [0, 1, 0, 0, 1]).both_ends().at(140),
+        cleared(512, [0, 1, 0, 0, 1]).whole_group().at(140),
         movement_asked(513, 0).at(141), // a movement is there
         ordered(512, 1).at(150),
         passed(512).at(160),

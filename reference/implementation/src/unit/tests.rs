@@ -87,7 +87,7 @@ fn both_ends() {
         assert_eq!(unit::apply(&sheet, &mut bytes, &clearance.d(5, d5).to_bytes()), (code, 0));
         assert_eq!(bytes, after(5));
     }
-    assert_eq!(unit::apply(&sheet, &mut bytes, &clearance.both_ends().to_bytes()), (0, 0));
+    assert_eq!(unit::apply(&sheet, &mut bytes, &clearance.whole_group().to_bytes()), (0, 0));
     let mut expected = after(6);
     expected[8 + 48] = 1;
     assert_eq!(bytes, expected);

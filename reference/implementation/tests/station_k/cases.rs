@@ -48,7 +48,7 @@ fn errors_that_would_pass_a_glance() {
         work_asked(7, 1, &[0, 1]),
         agreed(7),
         movement_asked(512, 0),
-        cleared(512, [0, 1, 0, 0, 1]).both_ends(),
+        cleared(512, [0, 1, 0, 0, 1]).whole_group(),
         ordered(512, 1),
         passed(512),
         movement_asked(513, 0),

@@ -1,9 +1,9 @@
 //! Station K's cases, K-2 to K-9, and a few more of the rules before them, on the whole desk. Here: what they share.
 
-mod both_ends;
 mod cases;
 mod journal;
 mod minutes;
+mod whole_group;
 
 use reference::builders::*;
 use reference::desk::Desk;

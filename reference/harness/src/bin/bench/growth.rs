@@ -1,6 +1,6 @@
 //! How cost grows with the input: the time of a whole call, of a unit of it, and how many times that of the row before.
 
-use crate::inputs::{self, Inputs};
+use crate::inputs::{self, Inputs, Tied};
 use crate::pairs::{read, replayed};
 use crate::timing::{least, Pair, Times};
 use harness::library;
@@ -13,20 +13,22 @@ const JOURNALS: [usize; 4] = [0, 64, 256, 1024];
 /// Turnouts of the sheets read, and routes of each.
 const SHEETS: [u8; 4] = [8, 16, 32, 64];
 
-/// A replay by its records, a sheet by its turnouts and routes.
+/// A replay by its records, a sheet of each version by its turnouts and routes.
 pub fn tables(inputs: &Inputs) {
     let journals = JOURNALS.map(inputs::long_talk);
     let replays = JOURNALS.iter().zip(&journals).map(|(&records, journal)| {
         replayed(&format!("replay, largest station, {records} records"), &inputs.large, journal, records)
     });
     table("how cost grows: a replay", "a record", replays);
-    println!();
-    let sheets = SHEETS.map(inputs::square_station);
-    let readings = SHEETS.iter().zip(&sheets).map(|(&count, sheet)| Pair {
-        units: usize::from(count) * usize::from(count),
-        ..read(&format!("sheet of {count} turnouts and {count} routes"), sheet, library::sheet, sheet::read)
-    });
-    table("how cost grows: a sheet, turnouts x routes", "a pair", readings);
+    for (version, tied) in [(1, Tied::Crossovers), (2, Tied::Groups(2))] {
+        println!();
+        let sheets = SHEETS.map(|turnouts| inputs::square_station(tied, turnouts));
+        let readings = SHEETS.iter().zip(&sheets).map(|(&count, sheet)| Pair {
+            units: usize::from(count) * usize::from(count),
+            ..read(&format!("sheet of {count} turnouts and {count} routes"), sheet, library::sheet, sheet::read)
+        });
+        table(&format!("how cost grows: a sheet of version {version}"), "a pair", readings);
+    }
 }
 
 /// Rows from the least input to the largest; `unit` names what the units are.

@@ -1,6 +1,6 @@
 //! The calls that are timed, library beside reference, and their table: nanoseconds of each, and their ratio.
 
-use crate::inputs::{self, Inputs};
+use crate::inputs::{self, Inputs, Tied};
 use crate::timing::{least, Pair};
 use harness::{library, trial};
 use reference::message::RECORD;
@@ -84,7 +84,26 @@ pub fn read<'a>(
     }
 }
 
-/// A good sheet's station, handed over by its values, written.
+/// A good sheet copied into a buffer of its length.
+fn copied<'a>(name: &str, sheet: &'a [u8]) -> Pair<'a> {
+    let mut by_library = vec![0; sheet.len()];
+    let mut by_reference = by_library.clone();
+    assert_eq!(library::copy_sheet(sheet, &mut by_library), 0);
+    assert_eq!(writer::copy_sheet(sheet, &mut by_reference), [0, 0]);
+    assert_eq!(by_library, by_reference);
+    Pair {
+        name: name.to_string(),
+        units: 1,
+        library: Box::new(move || {
+            black_box(library::copy_sheet(black_box(sheet), &mut by_library));
+        }),
+        reference: Box::new(move || {
+            black_box(writer::copy_sheet(black_box(sheet), &mut by_reference));
+        }),
+    }
+}
+
+/// The station of a good sheet of version 2, handed over by its values, written.
 fn written<'a>(name: &str, sheet: &[u8]) -> Pair<'a> {
     let station = RawStation::from(&sheet::read(sheet).expect("a good sheet"));
     let values = trial::values(&station);
@@ -128,15 +147,23 @@ fn verdicts<'a>() -> Pair<'a> {
 pub fn table(inputs: &Inputs) {
     let Inputs { large, talk, records } = inputs;
     let (k, talk_k) = (inputs::station_k(), inputs::talk_k());
-    let (split_requests, records_k) = (inputs::split_requests(), inputs::accepted(&k, &talk_k));
+    let records_k = inputs::accepted(&k, &talk_k);
+    let [twos, eights] = [2, 8].map(|size| inputs::largest_station(Tied::Groups(size)));
+    let (end, seven) = (inputs::split_requests(&[62]), inputs::split_requests(&[56, 57, 58, 59, 60, 61, 62]));
     let panel_sheet = builders::largest_panel_station().bytes();
     let mut pairs = [
         replayed("replay, station K, a message", &k, &talk_k, inputs::RECORDS),
         replayed("replay, largest station, a message", large, talk, inputs::RECORDS),
-        replayed("replay, largest station, a kind 1", large, &split_requests, inputs::RECORDS),
-        read("largest sheet", large, library::sheet, sheet::read),
+        replayed("replay, largest station, a kind 1", large, &end, inputs::RECORDS),
+        replayed("  in groups of 8", &eights, &seven, inputs::RECORDS),
+        read("largest sheet, version 1", large, library::sheet, sheet::read),
+        read("  version 2, groups of two", &twos, library::sheet, sheet::read),
+        read("  version 2, groups of 8", &eights, library::sheet, sheet::read),
         read("largest panel sheet", &panel_sheet, library::panel_sheet, panel::read),
-        written("largest sheet written", large),
+        copied("largest sheet copied, version 1", large),
+        copied("  version 2, groups of 8", &eights),
+        written("largest sheet written, groups of two", &twos),
+        written("  groups of 8", &eights),
         verdicts(),
         units("unit_apply, station K, a message", &k, &records_k, true),
         units("  reference without reading its sheet", &k, &records_k, false),

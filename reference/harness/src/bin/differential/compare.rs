@@ -1,7 +1,7 @@
 //! The comparisons: each call made of the library and of this implementation, on the same bytes.
 //! Those of records stand in `records`, those of journals in `journals`, those of units in `units`, those of the writer
-//! in `writers`, those of the cabin panel in `panels`, those of minutes in `minutes`, those of split crossovers in
-//! `crossovers`, those of two lists alike in a zone in `separation`, those of works on signals in `verdicts`.
+//! in `writers`, those of the cabin panel in `panels`, those of minutes in `minutes`, those of split groups in
+//! `splits`, those of two lists alike in a zone in `separation`, those of works on signals in `verdicts`.
 
 use crate::lists::Talk;
 use crate::rng::Rng;
@@ -73,6 +73,7 @@ impl Comparison {
             self.sheet(&damaged)?;
         }
         self.good_copies(&good)?;
+        self.group_sheets()?;
         self.panel_sheets()?;
         self.stations()?;
         let station = sheet::read(&good).expect("the generator makes good sheets");
@@ -89,7 +90,7 @@ impl Comparison {
             heard.push((record, answer));
         }
         self.tally.lists += 1;
-        self.tally.ends.left(&desk);
+        self.tally.covers.left(&desk);
         self.tally.keys.left();
         let records: Vec<[u8; RECORD]> = heard.iter().map(|(record, _)| *record).collect();
         let mut journal = journal_of(&records);
@@ -124,10 +125,12 @@ impl Comparison {
         Ok(())
     }
 
-    fn sheet(&mut self, bytes: &[u8]) -> Result<(), Difference> {
-        let reference = replay::sheet_number(&sheet::read(bytes));
+    pub fn sheet(&mut self, bytes: &[u8]) -> Result<(), Difference> {
+        let read = sheet::read(bytes);
+        let reference = replay::sheet_number(&read);
         self.tally.inputs += 1;
         self.tally.code(reference as u8);
+        self.tally.sheets.read(bytes, &read);
         let files = Files { sheet: bytes, journal: &[] };
         let desk = library::sheet(bytes);
         files.same(|| "desk_sheet(sheet)".into(), desk, reference)?;

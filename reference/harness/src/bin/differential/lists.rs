@@ -4,12 +4,12 @@
 use crate::near_misses::near_miss;
 use crate::rng::Rng;
 use crate::train_lists::any_clearance;
-use crate::{crossover_lists, times};
+use crate::{group_lists, times};
 use reference::builders;
 use reference::desk::Desk;
 use reference::message::{Form, Message, RECORD};
 use reference::movement::{Movement, Train};
-use reference::set::{holds, only, Set};
+use reference::set::{only, Set};
 use reference::station::Station;
 use reference::work::{Work, Works};
 use reference::zone::Zone;
@@ -83,7 +83,7 @@ impl Place<'_, '_> {
     fn sensible(&self, rng: &mut Rng) -> Message {
         match rng.within(0..=99) {
             0..=3 => builders::recorder(u8::from(!self.state.recorder_working)),
-            4..=43 => crossover_lists::perhaps_split(self.about_work(rng), rng, self.station),
+            4..=43 => group_lists::perhaps_split(self.about_work(rng), rng, self.station),
             _ => self.about_movement(rng),
         }
     }
@@ -99,7 +99,7 @@ impl Place<'_, '_> {
     fn about_work(&self, rng: &mut Rng) -> Message {
         match self.state.work {
             Work::None => {
-                let turnouts = self.whole_crossovers(self.some(rng, self.station.of_zone(self.zone)));
+                let turnouts = self.whole_groups(self.some(rng, self.station.of_zone(self.zone)));
                 let form = rng.pick(&[1, 2]);
                 Message { a: turnouts, ..builders::work_asked(rng.pick(&self.talk.forms), form, &[]) }
             }
@@ -120,16 +120,16 @@ impl Place<'_, '_> {
         Message { a: named & !portable, b: portable, ..builders::detection_off(works.id, &[], &[]) }
     }
 
-    /// Crossovers and turnouts of the work that no movement names, if there are such.
+    /// Groups and turnouts of the work that no movement names, if there are such.
     fn part(&self, rng: &mut Rng, works: Works) -> Set {
         let named = self.train().map_or(0, |train| train.route.named());
-        let free = works.turnouts & !self.whole_crossovers(named);
-        let part = self.whole_crossovers(self.some(rng, if free == 0 { works.turnouts } else { free }));
+        let free = works.turnouts & !self.whole_groups(named);
+        let part = self.whole_groups(self.some(rng, if free == 0 { works.turnouts } else { free }));
         // Only a damaged desk has work on no turnout.
         if part != works.turnouts || part == 0 {
             return part;
         }
-        part & !self.whole_crossovers(only(rng.member(part)))
+        part & !self.whole_groups(only(rng.member(part)))
     }
 
     /// A message of any kind that reads (a clearance's d5 may be 2), whatever the state.
@@ -197,21 +197,15 @@ impl Place<'_, '_> {
         match rng.within(0..=9) {
             0 => 0,
             1 => self.state.work.agreed_turnouts(),
-            2..=5 => self.whole_crossovers(rng.part(set, 40)),
+            2..=5 => self.whole_groups(rng.part(set, 40)),
             6 => rng.part(self.state.work.agreed_turnouts(), 50),
             _ => rng.part(set, 30),
         }
     }
 
-    /// The set with the other end of each crossover it touches.
-    fn whole_crossovers(&self, set: Set) -> Set {
-        let mut whole = set;
-        for (n, turnout) in (0u8..).zip(&self.station.turnouts) {
-            if let Some(partner) = turnout.partner.filter(|_| holds(set, n)) {
-                whole |= only(partner);
-            }
-        }
-        whole
+    /// The set with the whole of each group it touches.
+    fn whole_groups(&self, set: Set) -> Set {
+        self.station.groups().split_by(set).fold(set, |whole, (_, group)| whole | group)
     }
 }
 

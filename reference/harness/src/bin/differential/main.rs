@@ -5,12 +5,12 @@
 #![deny(unsafe_code)]
 
 mod compare;
-mod crossover_lists;
-mod crossover_stations;
-mod crossovers;
+mod covers;
 mod damaged_keys;
 mod demand;
-mod ends;
+mod group_lists;
+mod group_sheets;
+mod group_stations;
 mod journals;
 mod keys;
 mod lists;
@@ -21,9 +21,12 @@ mod panels;
 mod raw_stations;
 mod records;
 mod rng;
+mod route_counts;
 mod separation;
 mod separation_counts;
 mod separation_lists;
+mod sheet_counts;
+mod splits;
 mod stations;
 mod tally;
 mod times;
@@ -72,7 +75,7 @@ fn run(comparison: &mut Comparison, count: u64) -> Result<(), Difference> {
     comparison.all_panel_counts()?;
     while comparison.tally.inputs < count {
         comparison.round()?;
-        comparison.crossovers()?;
+        comparison.splits()?;
         comparison.separation()?;
     }
     Ok(())

@@ -36,13 +36,13 @@ pub fn near_miss(rng: &mut Rng, message: Message, last: u32) -> Message {
 
 /// One detail of a clearance changed to another good value.
 fn other_clearance(rng: &mut Rng, message: Message) -> Message {
-    let [_, _, position, _, channel, ends] = message.d;
+    let [_, _, position, _, channel, cover] = message.d;
     match rng.within(0..=4) {
         0 => message.d(1, rng.within(1..=9) as u8),
         1 => message.d(2, 1 - position),
         2 => message.d(3, rng.within(0..=2) as u8),
         3 => message.d(4, 3 - channel),
-        _ => message.d(5, u8::from(ends == 0)),
+        _ => message.d(5, u8::from(cover == 0)),
     }
 }
 

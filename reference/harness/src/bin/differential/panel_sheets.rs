@@ -10,15 +10,16 @@ const TURNOUTS: [u8; 10] = [0, 1, 15, 16, 17, 18, 63, 64, 65, 255];
 const ROUTES: [u8; 8] = [0, 7, 8, 9, 10, 64, 65, 255];
 const ZONES: [u8; 4] = [0, 1, 8, 9];
 
-/// All counts on both sides of the limits; each with its length and others, with another mark or version, and with a
-/// bad last turnout or route.
+/// All counts on both sides of the limits, in both versions; each with its length and others, with another mark or
+/// version, and with a bad last turnout or route.
 pub fn all_counts() -> impl Iterator<Item = Vec<u8>> {
     let routes = |turnouts: u8| ROUTES.map(|routes| (turnouts, routes));
     let counts = TURNOUTS.into_iter().flat_map(routes);
-    counts.flat_map(|(turnouts, routes)| ZONES.map(|zones| plain(turnouts, routes, zones))).flat_map(variants)
+    let sheets = counts.flat_map(|(turnouts, routes)| ZONES.map(|zones| plain(turnouts, routes, zones)));
+    sheets.flat_map(|sheet| [1, 2].map(|version| Sheet { version, ..sheet.clone() })).flat_map(variants)
 }
 
-/// Good if its counts are.
+/// Good if its counts are, in both versions.
 fn plain(turnouts: u8, routes: u8, zones: u8) -> Sheet {
     Sheet { zones, ..plain_station(usize::from(turnouts), usize::from(routes)) }
 }
@@ -31,7 +32,7 @@ fn variants(sheet: Sheet) -> Vec<Vec<u8>> {
         put(&mut changed, at, value);
         changed
     };
-    let mut variants = vec![with(2, b't'), with(4, 2)];
+    let mut variants = vec![with(2, b't'), with(4, 3), with(3, 1)];
     if !sheet.turnouts.is_empty() {
         variants.push(with(routes_at - 1, 2)); // its drive
     }
@@ -95,8 +96,9 @@ fn place(rng: &mut Rng, count: usize, limit: usize) -> usize {
 
 fn damage_turnout(rng: &mut Rng, sheet: &Sheet, bytes: &mut [u8]) {
     let n = place(rng, sheet.turnouts.len(), 16);
+    let turnouts = sheet.turnouts.len() as u8;
     let [field, value] =
-        rng.pick(&[[0, sheet.zones], [0, 255], [1, n as u8], [1, 16], [1, sheet.turnouts.len() as u8], [2, 2]]);
+        rng.pick(&[[0, sheet.zones], [0, 255], [1, n as u8], [1, 16], [1, turnouts], [1, 32], [1, 254], [2, 2]]);
     put(bytes, 8 + 3 * n + usize::from(field), value);
 }
 

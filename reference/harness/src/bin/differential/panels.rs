@@ -59,7 +59,7 @@ impl Comparison {
 /// PANEL-2: "more than 16 turnouts or 8 routes, .. after the counts are found in range". By the header's bytes alone.
 fn beyond(bytes: &[u8]) -> bool {
     match *bytes {
-        [b'S', b'P', b'T', 0, 1, turnouts @ 1..=64, routes @ 0..=64, 1..=8, ..] => turnouts > 16 || routes > 8,
+        [b'S', b'P', b'T', 0, 1 | 2, turnouts @ 1..=64, routes @ 0..=64, 1..=8, ..] => turnouts > 16 || routes > 8,
         _ => false,
     }
 }
@@ -79,6 +79,8 @@ pub struct Panels {
     full: [u64; 3],
     /// The last records within the limits: 5 with index 15, 6 with index 7.
     last: [u64; 2],
+    /// By version, accepted, 5 and 9.
+    versions: [[u64; 3]; 2],
 }
 
 const CODES: [(usize, &str); 8] = [
@@ -96,16 +98,20 @@ const DESK: [(usize, &str); 4] =
     [(0, "accepts"), (1, "finds the length wrong"), (5, "finds a bad turnout"), (6, "finds a bad route")];
 const FULL: [&str; 3] = ["16 turnouts", "8 routes", "16 turnouts and 8 routes"];
 const LAST: [&str; 2] = ["5 with index 15", "6 with index 7"];
+const OF_VERSION: [u8; 3] = [0, 5, 9];
 
 impl Panels {
     /// A sheet, the panel's answer to it and the desk's.
     pub fn read(&mut self, bytes: &[u8], panel: u32, desk: u32) {
-        let [_, _, _, _, _, turnouts, routes, _, ..] = *bytes else {
+        let [_, _, _, _, version, turnouts, routes, _, ..] = *bytes else {
             self.short += 1;
             return;
         };
         let [code, index, ..] = panel.to_le_bytes();
         self.codes[usize::from(code)] += 1;
+        if let (1 | 2, Some(place)) = (version, OF_VERSION.iter().position(|&other| other == code)) {
+            self.versions[usize::from(version - 1)][place] += 1;
+        }
         let (full_turnouts, full_routes) = (turnouts == 16, routes == 8);
         match code {
             0 => add(&mut self.full, [full_turnouts, full_routes, full_turnouts && full_routes]),
@@ -133,6 +139,10 @@ impl Panels {
         counts.extend(DESK.map(desk));
         counts.extend(FULL.iter().zip(self.full).map(|(full, count)| (format!("panel, accepted with {full}"), count)));
         counts.extend(LAST.iter().zip(self.last).map(|(last, count)| (format!("panel, code {last}"), count)));
+        for (version, codes) in (1..).zip(self.versions) {
+            let named = |code: u8| format!("panel, version {version}, code {code}");
+            counts.extend(OF_VERSION.into_iter().zip(codes).map(|(code, count)| (named(code), count)));
+        }
         counts
     }
 }

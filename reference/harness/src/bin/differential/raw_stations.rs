@@ -1,11 +1,12 @@
-//! Random stations as they stand, for the writer and for sets that may split a crossover: good ones, ones with a few
+//! Random stations as they stand, for the writer and for sets that may split a group: good ones, ones with a few
 //! numbers changed, and any numbers.
 
 use crate::rng::Rng;
 use crate::stations;
 use harness::trial::{self, VALUES};
+use reference::group::ALONE;
 use reference::set::{only, Set};
-use reference::sheet::{self, NO_PARTNER};
+use reference::sheet;
 use reference::station::Route;
 use reference::writer::{RawStation, RawTurnout, RECORDS};
 
@@ -22,7 +23,7 @@ pub fn good(rng: &mut Rng) -> RawStation {
 pub fn still_good(rng: &mut Rng, good: &RawStation) -> RawStation {
     let mut station = good.clone();
     let routes = usize::from(station.routes);
-    match rng.within(0..=5) {
+    match rng.within(0..=6) {
         0 => station.zones = rng.within(u32::from(station.zones)..=8) as u8,
         1 if routes > 0 => station.route_records.swap(rng.index(routes), rng.index(routes)),
         2 if routes > 0 => {
@@ -35,13 +36,26 @@ pub fn still_good(rng: &mut Rng, good: &RawStation) -> RawStation {
         }
         4 => {
             let turnout = &mut station.turnout_records[rng.index(usize::from(good.turnouts))];
-            if turnout.partner == NO_PARTNER {
+            if turnout.group == ALONE {
                 turnout.drive ^= 1;
             }
         }
+        5 => renumber(rng, &mut station),
         _ => {}
     }
     station
+}
+
+/// Two numbers of groups exchanged, in use or not.
+fn renumber(rng: &mut Rng, station: &mut RawStation) {
+    let [one, other] = [(); 2].map(|()| rng.within(0..=31) as u8);
+    for turnout in &mut station.turnout_records[..usize::from(station.turnouts)] {
+        turnout.group = match turnout.group {
+            number if number == one => other,
+            number if number == other => one,
+            number => number,
+        };
+    }
 }
 
 /// A good station with one number or a few numbers changed; by chance still good.
@@ -65,20 +79,20 @@ fn below(rng: &mut Rng, count: u8) -> usize {
 
 fn damage_turnout(rng: &mut Rng, station: &mut RawStation) {
     let n = below(rng, station.turnouts);
-    let partner = station.turnout_records[n].partner;
     let record = &mut station.turnout_records[n];
     match rng.within(0..=6) {
         0 => record.zone = rng.within(0..=8) as u8,
-        1 => record.partner = rng.within(0..=u32::from(station.turnouts)) as u8,
-        2 => record.partner = rng.pick(&[n as u8, 64, 254, NO_PARTNER]),
+        1 => record.group = rng.within(0..=31) as u8,
+        2 => record.group = rng.pick(&[31, 32, 40, 64, 254, ALONE]),
         3 => record.drive = rng.within(0..=2) as u8,
         4 => {
-            // Its partner does not name it back.
-            if let Some(other) = station.turnout_records.get_mut(usize::from(partner)) {
-                other.partner = rng.pick(&[NO_PARTNER, partner, 0]);
+            // Its record put over a few others: often a group of more than 8, or another left with one.
+            for _ in 0..rng.within(1..=8) {
+                let other = below(rng, station.turnouts);
+                station.turnout_records[other] = station.turnout_records[n];
             }
         }
-        5 => *rng.place([&mut record.zone, &mut record.partner, &mut record.drive]) = rng.byte(),
+        5 => *rng.place([&mut record.zone, &mut record.group, &mut record.drive]) = rng.byte(),
         _ => {
             // Another turnout's record.
             let other = below(rng, station.turnouts);
@@ -115,7 +129,7 @@ fn past_counts(rng: &mut Rng, station: &mut RawStation) {
     let number = rng.pick(&[1, 2, 128, 255]);
     if rng.chance(50) {
         if let Some(record) = one_past(rng, &mut station.turnout_records, station.turnouts) {
-            *rng.place([&mut record.zone, &mut record.partner, &mut record.drive]) = number;
+            *rng.place([&mut record.zone, &mut record.group, &mut record.drive]) = number;
         }
     } else if let Some(record) = one_past(rng, &mut station.route_records, station.routes) {
         if rng.chance(20) {
@@ -167,9 +181,9 @@ fn tiny(rng: &mut Rng) -> RawStation {
     let mut station = RawStation { turnouts: turnouts as u8, routes: routes as u8, ..RawStation::empty() };
     station.zones = zones as u8;
     for record in &mut station.turnout_records[..turnouts as usize] {
-        let partner = rng.weighted(&[(6, NO_PARTNER), (1, 0), (1, 1), (1, 2), (1, 3)]);
+        let group = rng.weighted(&[(4, ALONE), (4, 0), (1, 1), (1, 31), (1, 32)]);
         let (zone, drive) = (rng.weighted(&[(8, 0), (1, 1)]), rng.weighted(&[(8, 0), (1, 1)]));
-        *record = RawTurnout { zone, partner, drive };
+        *record = RawTurnout { zone, group, drive };
     }
     for record in &mut station.route_records[..routes as usize] {
         let all = only(turnouts as u8) - 1;

@@ -1,13 +1,14 @@
 //! Counts of what occurred, so that a run that never met a code, kind, regime or verdict is no test.
 
-use crate::crossover_lists::LastTurnout;
-use crate::crossovers::Splits;
+use crate::covers::Covers;
 use crate::damaged_keys::DamagedKeys;
-use crate::ends::Ends;
+use crate::group_lists::Parts;
 use crate::keys::Keys;
 use crate::minutes::Minutes;
 use crate::panels::Panels;
 use crate::separation_counts::Separation;
+use crate::sheet_counts::Sheets;
+use crate::splits::Splits;
 use reference::desk::Desk;
 use reference::message::RECORD;
 use reference::set::Set;
@@ -33,16 +34,19 @@ pub struct Tally {
     written: [u64; 256],
     /// Sheets copied, by code.
     copied: [u64; 256],
+    /// Those written, by version.
+    copied_of: [u64; 2],
     codes: [u64; 256],
     /// By kind (0 for none of the thirteen) and code, of messages heard.
     answers: [[u64; 256]; 14],
     regimes: [u64; 3],
     verdicts: [u64; 7],
-    pub ends: Ends,
+    pub sheets: Sheets,
+    pub covers: Covers,
     panels: Panels,
     pub minutes: Minutes,
     splits: Splits,
-    last_turnout: LastTurnout,
+    parts: Parts,
     pub keys: Keys,
     pub damaged_keys: DamagedKeys,
     pub separation: Separation,
@@ -58,15 +62,17 @@ impl Tally {
             units: 0,
             written: [0; 256],
             copied: [0; 256],
+            copied_of: [0; 2],
             codes: [0; 256],
             answers: [[0; 256]; 14],
             regimes: [0; 3],
             verdicts: [0; 7],
-            ends: Ends::default(),
+            sheets: Sheets::default(),
+            covers: Covers::default(),
             panels: Panels::default(),
             minutes: Minutes::default(),
             splits: Splits::default(),
-            last_turnout: LastTurnout::default(),
+            parts: Parts::default(),
             keys: Keys::new(),
             damaged_keys: DamagedKeys::default(),
             separation: Separation::default(),
@@ -79,8 +85,8 @@ impl Tally {
 
     /// A record of a list, and the desk that is to hear it.
     pub fn hearing(&mut self, desk: &Desk, record: &[u8; RECORD]) {
-        self.ends.heard(desk, record);
-        self.last_turnout.heard(desk, record);
+        self.covers.heard(desk, record);
+        self.parts.heard(desk, record);
         self.keys.heard(desk, record);
     }
 
@@ -106,10 +112,13 @@ impl Tally {
     }
 
     /// A sheet copied from one buffer into another.
-    pub fn copied(&mut self, code: u8) {
+    pub fn copied(&mut self, sheet: &[u8], code: u8) {
         self.inputs += 1;
         self.code(code);
         self.copied[usize::from(code)] += 1;
+        if let ([_, _, _, _, version @ 1..=2, ..], 0) = (sheet, code) {
+            self.copied_of[usize::from(version - 1)] += 1;
+        }
     }
 
     /// A sheet read by the panel, its answer, and the desk's.
@@ -119,7 +128,7 @@ impl Tally {
         self.panels.read(sheet, panel, desk);
     }
 
-    /// A set tried on a station as it stands, for a split crossover.
+    /// A set tried on a station as it stands, for a split group.
     pub fn splits(&mut self, station: &RawStation, set: Set) {
         self.inputs += 1;
         self.splits.tried(station, set);
@@ -165,14 +174,18 @@ impl Tally {
         counts.extend(WRITTEN.iter().map(written));
         let copied = |code: &u8| (format!("sheet copied, code {code}"), self.copied[usize::from(*code)]);
         counts.extend(COPIED.iter().map(copied));
+        let [old, new] = self.copied_of;
+        counts.push(("sheet of version 1 copied, into version 2".to_string(), old));
+        counts.push(("sheet of version 2 copied, byte for byte".to_string(), new));
         counts.extend((1..=13).map(|kind| (format!("kind {kind} accepted"), self.answers[kind][0])));
         counts.extend(REGIMES.iter().zip(self.regimes).map(|(regime, count)| (format!("regime {regime}"), count)));
         counts.extend((1..=6).map(|verdict| (format!("verdict {verdict}"), self.verdicts[verdict])));
-        counts.extend(self.ends.counts());
+        counts.extend(self.sheets.counts());
+        counts.extend(self.covers.counts());
         counts.extend(self.panels.counts());
         counts.extend(self.minutes.counts());
         counts.extend(self.splits.counts());
-        counts.extend(self.last_turnout.counts());
+        counts.extend(self.parts.counts());
         counts.extend(self.keys.counts());
         counts.extend(self.damaged_keys.counts());
         counts.extend(self.separation.counts());

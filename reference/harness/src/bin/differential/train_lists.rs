@@ -73,10 +73,10 @@ impl Place<'_, '_> {
         };
         let position = u8::from(train.route.position(turnout) == Position::Reverse);
         let channel = if self.state.recorder_working { 1 } else { 2 };
-        // FIT-4: "Declarations 1 and 2 on a turnout with a partner need d5 = 1. In every other clearance d5 is 0."
-        let due = u8::from(declaration <= 2 && self.station.has_partner(turnout));
-        let ends = rng.weighted(&[(85, due), (12, 1 - due), (3, 2)]);
-        builders::cleared(train.id, [turnout, declaration, position, clamp, channel]).d(5, ends)
+        // FIT-4: "with declaration 1 or 2 on a turnout of a group, of whatever size, d5 is 1; in every other .. 0".
+        let due = u8::from(declaration <= 2 && self.station.in_group(turnout));
+        let cover = rng.weighted(&[(85, due), (12, 1 - due), (3, 2)]);
+        builders::cleared(train.id, [turnout, declaration, position, clamp, channel]).d(5, cover)
     }
 }
 
@@ -91,6 +91,6 @@ fn key(rng: &mut Rng, train: &Train, beside: Set) -> Message {
 pub fn any_clearance(rng: &mut Rng, message: Message) -> Message {
     let declaration = rng.within(1..=9) as u8;
     let (position, clamp) = (rng.within(0..=1) as u8, rng.within(0..=2) as u8);
-    let (channel, ends) = (rng.pick(&[1, 2]), rng.weighted(&[(5, 0), (5, 1), (1, 2)]));
-    Message { d: [message.d[0], declaration, position, clamp, channel, ends], ..message }
+    let (channel, cover) = (rng.pick(&[1, 2]), rng.weighted(&[(5, 0), (5, 1), (1, 2)]));
+    Message { d: [message.d[0], declaration, position, clamp, channel, cover], ..message }
 }

@@ -15,7 +15,7 @@ const GOOD: usize = 3;
 const DAMAGED: usize = 6;
 const ODD: usize = 2;
 
-/// Percent of these stations on which a set is tried that may split a crossover.
+/// Percent of these stations on which a set is tried that may split a group.
 const SPLITS: u32 = 25;
 
 impl Comparison {
@@ -92,19 +92,22 @@ impl Comparison {
         self.copied(sheet, before).map(|_| ())
     }
 
-    /// A sheet copied: code, index and the whole buffer, which then has the sheet's bytes or what it had.
-    /// Returns the code.
+    /// A sheet copied: code, index and the whole buffer, which then has the sheet's bytes, in version 2, or what it
+    /// had. Returns the code.
     fn copied(&mut self, sheet: &[u8], before: Vec<u8>) -> Result<u8, Difference> {
         let (mut by_library, mut by_reference) = (before.clone(), before.clone());
         let [code, index] = writer::copy_sheet(sheet, &mut by_reference);
         let library = library::copy_sheet(sheet, &mut by_library);
-        self.tally.copied(code);
+        self.tally.copied(sheet, code);
         let files = Files { sheet, journal: &[] };
         let call = || format!("desk_copy_sheet(sheet, {} bytes)", before.len());
         let packed = u32::from(code) + 256 * u32::from(index);
         files.same(call, (library, &by_library), (packed, &by_reference))?;
-        let expected = if code == 0 { [sheet, &before[sheet.len()..]].concat() } else { before.clone() };
-        files.same(|| format!("{}: byte for byte, the rest untouched", call()), &by_library, &expected)?;
+        let expected = match code {
+            0 => [&in_version_2(sheet), &before[sheet.len()..]].concat(),
+            _ => before.clone(),
+        };
+        files.same(|| format!("{}: the sheet of version 2, the rest untouched", call()), &by_library, &expected)?;
         if code == 0 {
             let read = sheet::read(&by_library[..sheet.len()]);
             files.same(|| format!("{}: reading them yields that station", call()), read, sheet::read(sheet))?;
@@ -124,4 +127,24 @@ impl Comparison {
         };
         self.rng.bytes(length)
     }
+}
+
+/// SHEET-14, WRITE-5: the bytes of an accepted sheet, of version 2 as they are; of version 1 with the other version,
+/// and at both ends of each crossover, in the order of lower ends, its number in place of the partner.
+fn in_version_2(sheet: &[u8]) -> Vec<u8> {
+    let mut bytes = sheet.to_vec();
+    if sheet[4] == 2 {
+        return bytes;
+    }
+    bytes[4] = 2;
+    let mut crossovers = 0;
+    for n in 0..sheet[5] {
+        let [own, other] = [n, sheet[9 + 3 * usize::from(n)]].map(|turnout| 9 + 3 * usize::from(turnout));
+        if sheet[own] != 255 && own < other {
+            bytes[own] = crossovers;
+            bytes[other] = crossovers;
+            crossovers += 1;
+        }
+    }
+    bytes
 }

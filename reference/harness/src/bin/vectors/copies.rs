@@ -22,7 +22,7 @@ pub fn add(cases: &mut Cases) {
     let c = cases;
     let (k, two) = (station_k(), two_zones());
 
-    // Written: the sheet, and past it nothing.
+    // Written: the sheet, in version 2, and past it nothing.
     c.copied(0, 0, &k.bytes(), &buffer(50)); // station K
     c.copied(0, 0, &k.bytes(), &buffer(51)); // a byte past it
     c.copied(0, 0, &two.bytes(), &buffer(62)); // two zones
@@ -39,7 +39,7 @@ pub fn add(cases: &mut Cases) {
     c.copied(1, 0, &k.bytes()[..49], &buffer(50)); // 49 bytes
     c.copied(1, 0, &[k.bytes(), vec![0]].concat(), &buffer(51)); // 51 bytes
     c.copied(2, 0, &with(&k, 0, b's'), &buffer(50)); // mark
-    c.copied(3, 0, &with(&k, 4, 2), &buffer(50)); // version
+    c.copied(5, 0, &with(&k, 4, 2), &buffer(50)); // version 2 is read since M-107; K's partners are no groups
     c.copied(4, 0, &with(&k, 5, 65), &buffer(50)); // counts
     c.copied(5, 2, &with(&k, 16, 2), &buffer(50)); // turnout 2
     c.copied(6, 1, &two_zones().route(0, &[], &[], &[], &[]).bytes(), &buffer(100)); // route 1

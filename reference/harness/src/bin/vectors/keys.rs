@@ -30,7 +30,7 @@ fn all_at_work() -> Vec<Message> {
 
 /// There, the run-over turnouts cleared, the second with this declaration.
 fn run_over(declaration: u8) -> [Message; 2] {
-    [cleared(TRAIN, [0, 1, 0, 0, VOICE]).both_ends(), cleared(TRAIN, [5, declaration, 0, 0, VOICE])]
+    [cleared(TRAIN, [0, 1, 0, 0, VOICE]).whole_group(), cleared(TRAIN, [5, declaration, 0, 0, VOICE])]
 }
 
 pub fn add(cases: &mut Cases) {

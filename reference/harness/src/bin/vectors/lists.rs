@@ -21,7 +21,7 @@ fn several_zones() -> Vec<Message> {
         movement_asked(900, 56).in_zone(7).at(41),
         movement_asked(901, 27).in_zone(3).at(2),
         recorder(0).in_zone(7).at(42),
-        cleared(900, [0, 1, 1, 0, 1]).both_ends().at(43),
+        cleared(900, [0, 1, 1, 0, 1]).whole_group().at(43),
         cleared(900, [58, 7, 0, 0, 2]).in_zone(7).at(44),
         cleared(900, [1, 6, 1, 1, 1]).at(45),
         ordered(901, 1).in_zone(3).at(46),
@@ -79,7 +79,7 @@ pub fn add(cases: &mut Cases) {
     c.movement([0, CLEAR, NONE, 0], &k, &journal(&fresh_train), 0, 512); // clear: nothing under work
     let both = [work_asked(7, 1, &[0, 1, 2]), agreed(7), movement_asked(512, 0)];
     c.movement([0, HELD, 0, 2], &k, &journal(&both), 0, 512); // held: 0 and 2 lack one
-    let one = [&both[..], &[cleared(512, [0, 1, 0, 0, 1]).both_ends()]].concat();
+    let one = [&both[..], &[cleared(512, [0, 1, 0, 0, 1]).whole_group()]].concat();
     c.movement([0, HELD, 2, 1], &k, &journal(&one), 0, 512); // held: 2 lacks one
     let two = [&one[..], &[cleared(512, [2, 2, 0, 0, 1])]].concat();
     c.movement([0, CLEAR, NONE, 0], &k, &journal(&two), 0, 512); // clear

@@ -8,6 +8,8 @@ mod both_ends;
 mod cases;
 mod copies;
 mod crossovers;
+mod group_lists;
+mod groups;
 mod journals;
 mod keys;
 mod kinds;
@@ -46,6 +48,8 @@ fn main() {
     crossovers::add(&mut cases);
     keys::add(&mut cases);
     separation::add(&mut cases);
+    groups::add(&mut cases);
+    group_lists::add(&mut cases);
     println!("{} cases, {} bytes; stdout {} bytes", cases.count, cases.bytes.len(), cases.stdout.len());
     assert!(cases.bytes.len() <= CASES_LIMIT && cases.stdout.len() <= STDOUT_LIMIT);
     let write = |name: &str, bytes: &[u8]| fs::write(Path::new(&folder).join(name), bytes);

@@ -73,7 +73,7 @@ fn after_the_counts(c: &mut Cases) {
     let seventeen = plain_station(17, 0);
     c.panel(1, 0, &seventeen.bytes()[..7]); // 7 bytes
     c.panel(2, 0, &with(&seventeen, 2, b"t")); // mark
-    c.panel(3, 0, &with(&seventeen, 3, &[0, 2])); // version 2
+    c.panel(9, 0, &with(&seventeen, 3, &[0, 2])); // version 2 is read since M-107
     c.panel(4, 0, &with(&seventeen, 7, &[0])); // no zone
     c.panel(4, 0, &with(&seventeen, 7, &[9])); // nine zones
     c.panel(4, 0, &with(&seventeen, 5, &[65])); // 65 turnouts

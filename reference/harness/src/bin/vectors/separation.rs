@@ -25,7 +25,7 @@ fn zone_0() -> Stated {
         (detection_off(FORM, &[0], &[1]).at(120), 0),
         (movement_asked(TRAIN, 0).at(130), 0),
         (ordered(TRAIN, CLEAR).at(131), 22), // held
-        (cleared(TRAIN, [0, 1, 0, 0, VOICE]).both_ends().at(140), 0),
+        (cleared(TRAIN, [0, 1, 0, 0, VOICE]).whole_group().at(140), 0),
         (ordered(TRAIN, CLEAR).at(139), 14),
         (ordered(TRAIN, CLEAR).at(150), 0),
         (passed(TRAIN).at(160), 0),

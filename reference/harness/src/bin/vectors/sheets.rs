@@ -61,7 +61,7 @@ pub fn add(cases: &mut Cases) {
 
     // Version, 3.
     c.sheet(3, 0, &with(&k, 3, &[0, 0])); // version 0
-    c.sheet(3, 0, &with(&k, 3, &[0, 2])); // version 2
+    c.sheet(5, 0, &with(&k, 3, &[0, 2])); // version 2 is read since M-107; K's partners are no groups
     c.sheet(3, 0, &with(&k, 3, &[1, 1])); // version 257
 
     // Counts, 4.
@@ -125,7 +125,7 @@ pub fn add(cases: &mut Cases) {
 
     // Two faults: the order, and the first record.
     c.sheet(2, 0, &with(&k, 2, &[0, 0, 9])); // mark before version
-    c.sheet(3, 0, &with(&k, 3, &[0, 2, 0])); // version before counts
+    c.sheet(4, 0, &with(&k, 3, &[0, 2, 0])); // version 2 is read since M-107: counts
     c.sheet(2, 0, &with(&k, 2, &[0, 0, 1, 0, 1])); // mark before counts
     c.sheet(4, 0, &with(&k, 5, &[0, 1, 1])[..20]); // counts before length
     c.sheet(1, 0, &turnout(4, [9, 9, 9])[..60]); // length before turnouts

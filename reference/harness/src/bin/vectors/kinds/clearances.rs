@@ -19,7 +19,7 @@ pub fn kind_6(c: &mut Cases, y: &[u8]) {
     let past = [cleared(TRAIN, [8, 1, 0, 0, VOICE]), cleared(TRAIN, [63, 1, 0, 0, VOICE])];
     c.refused(17, y, &two(), &past); // turnout P, turnout 63
     c.list(17, y, &then(two(), &[cleared(TRAIN, [5, 9, 1, 2, WRITTEN])])); // 17 before 20 and 21
-    let other_end = cleared(TRAIN, [1, 1, 1, 0, VOICE]).both_ends();
+    let other_end = cleared(TRAIN, [1, 1, 1, 0, VOICE]).whole_group();
     c.list(17, y, &then(work_and_train(M45, &[0, 1], 0), &[other_end])); // end not named
     c.list(15, y, &then(two(), &[cleared(TRAIN, [2, 1, 0, 0, VOICE]).in_zone(1)])); // in the other zone
     let next = [ordered(TRAIN, CLEAR), passed(TRAIN), movement_asked(513, 0), cleared(513, [2, 8, 0, 2, VOICE])];
@@ -28,7 +28,7 @@ pub fn kind_6(c: &mut Cases, y: &[u8]) {
 
 /// Kind 6, clearance: 20 by position.
 pub fn kind_6_position(c: &mut Cases, y: &[u8]) {
-    let in_position = |position: u8| cleared(TRAIN, [0, 1, position, 0, VOICE]).both_ends();
+    let in_position = |position: u8| cleared(TRAIN, [0, 1, position, 0, VOICE]).whole_group();
     c.list(20, y, &then(work_and_train(M45, &[0, 1], 0), &[in_position(0)])); // normal
     c.list(0, y, &then(work_and_train(M45, &[2], 3), &[cleared(TRAIN, [2, 2, 1, 0, VOICE])])); // another route, reverse
     c.list(0, y, &then(work_and_train(M45, &[0, 1], 0), &[in_position(1)])); // reverse, as it is

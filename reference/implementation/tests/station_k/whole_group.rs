@@ -1,4 +1,4 @@
-//! Clearances that cover both ends of station K's crossover. FIT-4.
+//! Clearances that cover the whole group: station K's crossover. Larger groups stand in `groups`. FIT-4.
 
 use crate::{last_code, station, verbal_work_on_2, with};
 use reference::builders::*;
@@ -18,7 +18,8 @@ fn alone() -> Vec<Message> {
     with(verbal_work_on_2(), &[movement_asked(512, 0)])
 }
 
-/// FIT-4: "Declarations 1 and 2 on a turnout with a partner need d5 = 1. In every other clearance d5 is 0."
+/// FIT-4: "with declaration 1 or 2 on a turnout of a group, of whatever size, d5 is 1; in every other clearance d5 is
+/// 0".
 #[test]
 fn both_ends_of_a_crossover() {
     for declaration in 1..=6 {
@@ -32,7 +33,7 @@ fn both_ends_of_a_crossover() {
     for declaration in [1, 2, 7, 8, 9] {
         let clearance = cleared(512, [2, declaration, 0, 0, 1]);
         assert_eq!(last_code(&with(alone(), &[clearance])), 0);
-        assert_eq!(last_code(&with(alone(), &[clearance.both_ends()])), 20);
+        assert_eq!(last_code(&with(alone(), &[clearance.whole_group()])), 20);
     }
 }
 
@@ -68,23 +69,23 @@ fn d5_that_no_record_carries() {
 #[test]
 fn order_of_a_wrong_d5() {
     let wrong = cleared(512, [0, 1, 0, 0, 1]);
-    assert_eq!(last_code(&with(crossover(), &[wrong.both_ends(), wrong])), 16);
+    assert_eq!(last_code(&with(crossover(), &[wrong.whole_group(), wrong])), 16);
     assert_eq!(last_code(&with(crossover(), &[wrong.d(0, 1)])), 17);
-    assert_eq!(last_code(&with(crossover(), &[wrong.d(0, 2).both_ends()])), 17);
-    assert_eq!(last_code(&with(crossover(), &[wrong.d(0, 3).both_ends()])), 17);
+    assert_eq!(last_code(&with(crossover(), &[wrong.d(0, 2).whole_group()])), 17);
+    assert_eq!(last_code(&with(crossover(), &[wrong.d(0, 3).whole_group()])), 17);
     assert_eq!(last_code(&with(alone(), &[wrong])), 17);
     assert_eq!(last_code(&with(crossover(), &[wrong.d(4, 2)])), 20);
-    assert_eq!(last_code(&with(crossover(), &[wrong.both_ends().d(4, 2)])), 21);
+    assert_eq!(last_code(&with(crossover(), &[wrong.whole_group().d(4, 2)])), 21);
 }
 
-/// The regime is not reworded; in the history 'all efficient' needs d5 = 1 where there is a partner.
+/// HIST-7: in the history a good clearance needs d5 1 on a turnout of a group; the regime is by the declaration alone.
 #[test]
 fn clear_by_both_ends() {
     let station = station();
     let good = |list: &[Message], turnout: u8| History(list).good_clearance(&station, turnout);
     for declaration in [1, 2] {
         let clearance = cleared(512, [0, declaration, 0, 0, 1]);
-        let covered = with(crossover(), &[clearance.both_ends()]);
+        let covered = with(crossover(), &[clearance.whole_group()]);
         let mut desk = Desk::fresh(&station);
         assert!(covered.iter().all(|message| desk.hear(message).is_ok()));
         assert_eq!(desk.movement_question(0, 512).expect("stands").regime, Regime::Clear);
@@ -92,6 +93,6 @@ fn clear_by_both_ends() {
         assert!(!good(&with(crossover(), &[clearance]), 0));
         assert_eq!(last_code(&with(covered, &[ordered(512, 1)])), 0);
     }
-    assert!(!good(&with(crossover(), &[cleared(512, [0, 3, 0, 0, 1]).both_ends()]), 0));
+    assert!(!good(&with(crossover(), &[cleared(512, [0, 3, 0, 0, 1]).whole_group()]), 0));
     assert!(good(&with(alone(), &[cleared(512, [2, 1, 0, 0, 1])]), 2));
 }

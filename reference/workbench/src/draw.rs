@@ -3,7 +3,7 @@
 
 mod bars;
 mod columns;
-mod crossovers;
+mod group_bars;
 mod ink;
 mod journal;
 mod legend;

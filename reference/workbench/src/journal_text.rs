@@ -43,8 +43,8 @@ pub fn line(message: &Message) -> String {
             Field::SetB(name) => format!("{name} {}", words::set(message.b)),
             Field::Number(n, name, ..) => format!("{name} {}", message.d[n]),
             Field::Choice(n, table) => word(table, message.d[n]).unwrap_or("").to_string(),
-            Field::Flag(n, _) if message.d[n] == 0 => continue,
-            Field::Flag(_, words) => words.to_string(),
+            Field::Flag(n, ..) if message.d[n] == 0 => continue,
+            Field::Flag(_, words, _) => words.to_string(),
         };
         text += &format!(", {shown}");
     }
@@ -100,7 +100,7 @@ fn read_message(line: &mut Line) -> Result<Message, TextError> {
                 message.d[n] = line.number(name, u32::from(low), u32::from(high))? as u8;
             }
             Field::Choice(n, table) => message.d[n] = line.choice(table)?,
-            Field::Flag(n, words) => message.d[n] = u8::from(line.flag(words)?),
+            Field::Flag(n, words, older) => message.d[n] = u8::from(line.flag(words, older)?),
         }
     }
     Ok(message)

@@ -13,8 +13,8 @@ pub enum Field {
     Number(usize, &'static str, u8, u8),
     /// A detail and the words for its values.
     Choice(usize, &'static [(&'static str, u8)]),
-    /// A detail of 0 or 1, at the line's end: the words for 1; for 0 there are none.
-    Flag(usize, &'static str),
+    /// A detail of 0 or 1, at the line's end: the words for 1, and older words that are still read; for 0 there are none.
+    Flag(usize, &'static str, &'static str),
 }
 
 pub struct Kind {
@@ -46,7 +46,7 @@ pub const KINDS: [Kind; 13] = [
             Choice(2, &[("position normal", 0), ("position reverse", 1)]),
             Choice(3, &[("no clamp", 0), ("clamp", 1), ("attended", 2)]),
             Choice(4, &[("medium voice", 1), ("medium written", 2)]),
-            Flag(5, "covers both ends"),
+            Flag(5, "covers the whole group", "covers both ends"),
         ],
     },
     Kind { name: "ordered", fields: &[TRAIN, Choice(0, &[("signals clear", 1), ("signals danger", 2)])] },
@@ -95,7 +95,7 @@ pub fn bad_fields(message: &Message) -> Vec<String> {
                     bad.push(format!("d{n} is {}, not {}", message.d[n], words.join(" or ")));
                 }
             }
-            Flag(n, _) => {
+            Flag(n, ..) => {
                 details[n] = true;
                 if message.d[n] > 1 {
                     bad.push(format!("d{n} is {}, not 0 or 1", message.d[n]));

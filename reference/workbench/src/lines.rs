@@ -84,12 +84,13 @@ impl Line {
         self.take(&words.join(" or "), |field| table.iter().find(|(word, _)| *word == field).map(|(_, value)| *value))
     }
 
-    /// The last field, if there is one: these words.
-    pub fn flag(&mut self, words: &str) -> Result<bool, TextError> {
+    /// The last field, if there is one: these words, or older ones for the same.
+    pub fn flag(&mut self, words: &str, older: &str) -> Result<bool, TextError> {
         if self.fields.is_empty() {
             return Ok(false);
         }
-        self.take(&format!("'{words}' or the end of the line"), |field| (field == words).then_some(true))
+        let expected = format!("'{words}' or the end of the line");
+        self.take(&expected, |field| (field == words || field == older).then_some(true))
     }
 
     /// No field is left.

@@ -6,6 +6,7 @@
 
 mod draw;
 mod explain;
+mod groups;
 mod journal_text;
 mod kinds;
 mod lines;
@@ -16,8 +17,10 @@ mod sheet_text;
 mod state;
 mod words;
 
+use reference::sheet::{self, HEADER};
+use reference::station::Station;
 use reference::writer::{self, RawStation};
-use reference::{journal, panel, sheet};
+use reference::{journal, panel};
 use std::io::{self, Write};
 use std::{env, fs, process};
 
@@ -27,7 +30,7 @@ usage: workbench show-sheet SHEET              the sheet as text
        workbench make-sheet TEXT SHEET         such a text as a sheet
        workbench make-journal TEXT JOURNAL     such a text as a journal
        workbench explain SHEET JOURNAL         each record, its answer and what it leaves, in words
-       workbench copy-sheet SHEET OUT          the sheet read, and written again by the writer
+       workbench copy-sheet SHEET OUT          the sheet read, and written again in version 2
        workbench check-panel SHEET             whether the cabin panel takes the sheet
        workbench draw-sheet SHEET OUT          the station's plan as a picture, SVG
        workbench draw-journal SHEET JOURNAL OUT
@@ -97,12 +100,11 @@ fn make_sheet(text_path: &str, path: &str) -> Result<String, Failure> {
     let text = read_text(text_path)?;
     let described = sheet_text::read(&text).map_err(|error| in_text(text_path, &error))?;
     let bytes = described.sheet.bytes();
-    if let Err(fault) = sheet::read(&bytes) {
-        let line = described.line_of(fault);
-        let words = refused::sheet(&bytes, fault);
-        return Err(Failure::Error(format!("{text_path}: line {line}: {words}; nothing written")));
-    }
-    write_file(path, &bytes)
+    let station = sheet::read(&bytes).map_err(|fault| {
+        let (line, words) = (described.line_of(fault), refused::sheet(&bytes, fault));
+        Failure::Error(format!("{text_path}: line {line}: {words}; nothing written"))
+    })?;
+    write_file(path, &written(&station)?)
 }
 
 fn make_journal(text_path: &str, path: &str) -> Result<String, Failure> {
@@ -120,15 +122,26 @@ fn explain_files(sheet_path: &str, journal_path: &str) -> Result<String, Failure
     explain::explain(&station, &journal).map_err(|_| Failure::Refused(refused::journal(&journal)))
 }
 
-/// Writes the station that was read, not the bytes it was read from.
+/// Writes the station that was read, not the bytes it was read from. WRITE-5: "A sheet of version 1 is so turned into one
+/// of version 2".
 fn copy_sheet(path: &str, out: &str) -> Result<String, Failure> {
     let bytes = read_file(path)?;
     let station = sheet::read(&bytes).map_err(|fault| Failure::Refused(refused::sheet(&bytes, fault)))?;
-    let station = RawStation::from(&station);
-    let mut buffer = vec![0; station.sheet_length()];
-    let written = writer::write(&station, &mut buffer);
-    written.map_err(|refusal| Failure::Refused(refused::writing(&station, buffer.len(), refusal)))?;
-    write_file(out, &buffer)
+    let copy = written(&station)?;
+    let mut done = write_file(out, &copy)?;
+    if copy[..HEADER] != bytes[..HEADER] {
+        done += &format!("{out}: version 2, made from version 1: crossovers are groups\n");
+    }
+    Ok(done)
+}
+
+/// The station's sheet by the writer, WRITE-1: of version 2.
+fn written(station: &Station) -> Result<Vec<u8>, Failure> {
+    let station = RawStation::from(station);
+    let mut sheet = vec![0; station.sheet_length()];
+    let done = writer::write(&station, &mut sheet);
+    done.map_err(|refusal| Failure::Refused(refused::writing(&station, sheet.len(), refusal)))?;
+    Ok(sheet)
 }
 
 /// Reads the sheet as the cabin panel does.

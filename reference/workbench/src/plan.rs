@@ -1,7 +1,7 @@
-//! The plan of a station as comment lines: for each zone its turnouts, crossovers and routes.
+//! The plan of a station as comment lines: for each zone its turnouts, groups and routes.
 
-use crate::words;
-use reference::set::{holds, members, only, Set};
+use crate::{groups, words};
+use reference::set::{members, only, Set};
 use reference::station::{Drive, Route, Station};
 
 pub fn plan(station: &Station) -> String {
@@ -10,8 +10,14 @@ pub fn plan(station: &Station) -> String {
         let turnouts = station.of_zone(zone);
         text += &format!("# Zone {zone}\n");
         text += &format!("#   turnouts: {}\n", drives(station, turnouts));
-        text += &format!("#   crossovers: {}\n", words::list(&crossovers(station, turnouts)));
-        text += &format!("#   alone: {}\n", words::set_or_none(alone(station, turnouts)));
+        let groups = groups::of(station, turnouts);
+        for group in &groups {
+            text += &format!("#   group {}: {}\n", group.number, words::set(group.turnouts));
+        }
+        if groups.is_empty() {
+            text += "#   groups: none\n";
+        }
+        text += &format!("#   alone: {}\n", words::set_or_none(groups::alone(station, turnouts)));
         for (n, route) in station.routes.iter().enumerate().filter(|(_, route)| route.zone == zone) {
             text += &format!("#   route {n}: {}\n", parts(route));
         }
@@ -28,20 +34,6 @@ fn drives(station: &Station, turnouts: Set) -> String {
         .fold(0, |set, n| set | only(n));
     let electric = turnouts & !by_hand;
     format!("electric {}; hand with key lock {}", words::set_or_none(electric), words::set_or_none(by_hand))
-}
-
-fn partner(station: &Station, n: u8) -> Option<u8> {
-    station.turnout(n)?.partner
-}
-
-/// `0-1` for each crossover with both ends in the set.
-pub fn crossovers(station: &Station, turnouts: Set) -> Vec<String> {
-    let pairs = members(turnouts).filter_map(|n| Some((n, partner(station, n)?)));
-    pairs.filter(|&(n, other)| n < other && holds(turnouts, other)).map(|(n, other)| format!("{n}-{other}")).collect()
-}
-
-fn alone(station: &Station, turnouts: Set) -> Set {
-    members(turnouts).filter(|&n| partner(station, n).is_none()).fold(0, |set, n| set | only(n))
 }
 
 /// Each part of the route with its turnouts' positions.

@@ -1,12 +1,12 @@
 //! What breaks the check that refused a message, from what the zone held before it.
 
-use crate::{plan, sheet_text, state, words};
+use crate::{groups, sheet_text, state, words};
 use reference::clearance::{Channel, Clearance};
 use reference::desk::Desk;
 use reference::message::{Content, Message};
 use reference::movement::Train;
 use reference::refusal::Refusal;
-use reference::set::{holds, members, only, Set};
+use reference::set::{holds, only, Set};
 use reference::station::Station;
 use reference::work::{Work, Works};
 use reference::zone::Zone;
@@ -75,7 +75,7 @@ fn place(station: &Station, number: u8, zone: &Zone, content: &Content) -> Strin
         Content::WorkAsked { turnouts, .. } => {
             empty(&mut bad, turnouts, "turnouts");
             outside(&mut bad, turnouts & !station.of_zone(number), &format!("outside zone {number}"));
-            split(&mut bad, station, turnouts);
+            bad.extend(groups::split(station, turnouts));
         }
         Content::DetectionOff { lost, portable } => {
             empty(&mut bad, lost | portable, "lost and portable device");
@@ -88,7 +88,7 @@ fn place(station: &Station, number: u8, zone: &Zone, content: &Content) -> Strin
             if turnouts == work {
                 bad.push(format!("{} is the whole work", words::set(turnouts)));
             }
-            split(&mut bad, station, turnouts);
+            bad.extend(groups::split(station, turnouts));
         }
         Content::MovementAsked { route } => bad.push(match station.routes.get(usize::from(route)) {
             Some(other) => format!("route {route} is of zone {}", other.zone),
@@ -116,16 +116,6 @@ fn empty(bad: &mut Vec<String>, set: Set, name: &str) {
 fn outside(bad: &mut Vec<String>, set: Set, place: &str) {
     if set != 0 {
         bad.push(format!("{} {place}", words::set(set)));
-    }
-}
-
-/// The crossovers of which the set holds one end only.
-fn split(bad: &mut Vec<String>, station: &Station, set: Set) {
-    let partner = |n: u8| station.turnout(n)?.partner;
-    let halves = members(set).filter_map(|n| partner(n).filter(|&other| !holds(set, other)).map(|other| (n, other)));
-    let ends = halves.fold(0, |ends, (n, other)| ends | only(n) | only(other));
-    if ends != 0 {
-        bad.push(format!("split crossover: {}", words::list(&plan::crossovers(station, ends))));
     }
 }
 
@@ -158,7 +148,7 @@ fn conflict(station: &Station, content: &Content, works: Option<Works>, train: O
     }
 }
 
-/// 20: of position, declaration, clamp and the ends covered, those that do not fit.
+/// 20: of position, declaration, clamp and what is covered, those that do not fit.
 fn unfit(station: &Station, content: &Content, train: Option<Train>) -> String {
     let (Content::Cleared(clearance), Some(train)) = (content, train) else {
         return String::new();
@@ -181,22 +171,21 @@ fn unfit(station: &Station, content: &Content, train: Option<Train>) -> String {
         let (declaration, clamp) = (clearance.declaration, words::clamp(clearance.clamp));
         bad.push(format!("{clamp} does not fit declaration {declaration} on a turnout {part}"));
     }
-    if !clearance.ends_fit(station.has_partner(n)) {
-        bad.push(ends(station, clearance));
+    if !clearance.cover_fits(station.in_group(n)) {
+        bad.push(covering(station, clearance));
     }
     bad.join("; ")
 }
 
-/// FIT-4: "Declarations 1 and 2 on a turnout with a partner need d5 = 1. In every other clearance d5 is 0."
-fn ends(station: &Station, clearance: &Clearance) -> String {
+/// FIT-4: "with declaration 1 or 2 on a turnout of a group .. d5 is 1; in every other clearance d5 is 0".
+fn covering(station: &Station, clearance: &Clearance) -> String {
     let (n, declaration) = (clearance.turnout, clearance.declaration);
-    if !clearance.covers_both_ends {
-        return format!("declaration {declaration} on turnout {n}, one end of a crossover, must cover both ends");
-    }
-    if !station.has_partner(n) {
-        return format!("turnout {n} is alone: there is no other end to cover");
-    }
-    format!("declaration {declaration} covers one turnout: it may not say that it covers both ends")
+    let Some(group) = groups::of(station, only(n)).pop() else {
+        return format!("turnout {n} is alone: there is no group to cover");
+    };
+    let (number, turnouts) = (group.number, words::set(group.turnouts));
+    let due = if clearance.covers_group { "may not say that it covers" } else { "must cover" };
+    format!("declaration {declaration} on turnout {n} of group {number}, {turnouts}, {due} the whole group")
 }
 
 fn channel(content: &Content) -> &'static str {

@@ -1,49 +1,14 @@
 //! Refused sheets, stations, records and journals in words: the number, the rule, and what breaks it here.
 
+mod sheets;
+
+pub use sheets::refused as sheet;
+
 use crate::{kinds, words};
 use reference::journal::{self, HEADER, MOST};
 use reference::message::{Message, RECORD};
 use reference::refusal::Refusal;
-use reference::sheet::{self, SheetFault, NO_PARTNER};
 use reference::writer::RawStation;
-
-const SHEET_HEADER: usize = 8;
-const TURNOUT: usize = 3;
-const ROUTE: usize = 33;
-
-/// A refused sheet: number, record index for 5 and 6, rule, what breaks it.
-pub fn sheet(bytes: &[u8], fault: SheetFault) -> String {
-    let number = fault.number();
-    let (rule, here) = match fault {
-        SheetFault::Length => ("length: at least 8 bytes, and exactly 8 + 3P + 33R", vec![length(bytes)]),
-        SheetFault::Mark => (
-            "mark: the first three bytes are the letters SPT",
-            vec![format!("{:02x} {:02x} {:02x}", bytes[0], bytes[1], bytes[2])],
-        ),
-        SheetFault::Version => {
-            ("version: 16 bits, 1", vec![format!("version {}", u16::from_be_bytes([bytes[3], bytes[4]]))])
-        }
-        SheetFault::Counts => {
-            ("counts: P 1 to 64, R 0 to 64, Z 1 to 8", vec![format!("P {}, R {}, Z {}", bytes[5], bytes[6], bytes[7])])
-        }
-        SheetFault::Limits => (
-            "more than 16 turnouts or 8 routes, the cabin panel's limits",
-            vec![format!("P {}, R {}", bytes[5], bytes[6])],
-        ),
-        SheetFault::Turnout(n) => {
-            let rule =
-                "zone below Z; a partner is below P, not itself, names it back, same zone and drive; drive 0 or 1";
-            return with_here(format!("refused by {number}: turnout record {n}: {rule}"), bad_turnout(bytes, n));
-        }
-        SheetFault::Route(n) => {
-            let rule = "run over, flank, exit zone disjoint; among the P turnouts, in the route's zone; run over not \
-                        empty; reverse within the union; a flank turnout's partner is flank too (Art. 3.24); both ends \
-                        of a crossover, if named, in the same position";
-            return with_here(format!("refused by {number}: route record {n}: {rule}"), bad_route(bytes, n));
-        }
-    };
-    with_here(format!("refused by {number}: {rule}"), here)
-}
 
 fn with_here(text: String, here: Vec<String>) -> String {
     if here.is_empty() {
@@ -51,80 +16,6 @@ fn with_here(text: String, here: Vec<String>) -> String {
     } else {
         format!("{text}. Here: {}", here.join("; "))
     }
-}
-
-fn length(bytes: &[u8]) -> String {
-    let found = words::count(bytes.len(), "byte");
-    match bytes {
-        [_, _, _, _, _, turnouts, routes, _, ..] => {
-            let needed = SHEET_HEADER + TURNOUT * usize::from(*turnouts) + ROUTE * usize::from(*routes);
-            format!("{found}; P {turnouts}, R {routes} need {needed}")
-        }
-        _ => found,
-    }
-}
-
-/// What breaks the rule of turnout records in record `n`.
-fn bad_turnout(bytes: &[u8], n: u8) -> Vec<String> {
-    let record = |n: u8| &bytes[SHEET_HEADER + TURNOUT * usize::from(n)..][..TURNOUT];
-    let (turnouts, zones) = (bytes[5], bytes[7]);
-    let [zone, partner, drive] = *record(n) else {
-        return Vec::new();
-    };
-    let mut bad = Vec::new();
-    if zone >= zones {
-        bad.push(format!("zone {zone} is not below Z, {zones}"));
-    }
-    if partner == n {
-        bad.push(format!("turnout {n} is its own partner"));
-    } else if partner != NO_PARTNER && partner >= turnouts {
-        bad.push(format!("partner {partner} is not below P, {turnouts}"));
-    } else if partner != NO_PARTNER {
-        let other = record(partner);
-        if other[1] != n {
-            bad.push(format!("partner {partner} does not name {n} back"));
-        }
-        if other[0] != zone {
-            bad.push(format!("partner {partner} is in zone {}", other[0]));
-        }
-        if other[2] != drive {
-            bad.push(format!("partner {partner} has another drive"));
-        }
-    }
-    if drive > 1 {
-        bad.push(format!("drive {drive}"));
-    }
-    bad
-}
-
-/// What breaks the rule of routes in route record `n`; the turnouts have been read without fault.
-fn bad_route(bytes: &[u8], n: u8) -> Vec<String> {
-    let routes_at = SHEET_HEADER + TURNOUT * usize::from(bytes[5]);
-    let mut turnouts_only = bytes[..routes_at].to_vec();
-    turnouts_only[6] = 0;
-    let Ok(station) = sheet::read(&turnouts_only) else {
-        return Vec::new();
-    };
-    let route = sheet::route_fields(&bytes[routes_at + ROUTE * usize::from(n)..][..ROUTE]);
-    let outside = route.named() & !station.of_zone(route.zone);
-    let rules = [
-        (sheet::pairwise_disjoint(&route), "run over, flank and exit zone overlap".to_string()),
-        (outside == 0, format!("{} not among the turnouts of zone {}", words::set(outside), route.zone)),
-        (route.run_over != 0, "run over is empty".to_string()),
-        (
-            sheet::reverse_within_union(&route),
-            format!("reverse {} is not named by the route", words::set(route.reverse & !route.named())),
-        ),
-        (
-            sheet::flank_with_partner(&route, &station),
-            format!("flank {} holds one end of a crossover", words::set(route.flank)),
-        ),
-        (
-            sheet::same_position(&route, &station),
-            format!("reverse {} holds one end of a crossover that is named with both", words::set(route.reverse)),
-        ),
-    ];
-    rules.into_iter().filter(|(met, _)| !met).map(|(_, broken)| broken).collect()
 }
 
 /// A station that is not written into a buffer of that length: 7 or 8.
@@ -183,6 +74,7 @@ fn bad_journal(bytes: &[u8]) -> Vec<String> {
 mod tests {
     use super::*;
     use reference::builders::station_k;
+    use reference::sheet;
     use reference::writer::write;
 
     /// No command hands the writer such a station or such a buffer: only the words are tried here.

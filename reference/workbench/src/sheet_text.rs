@@ -1,12 +1,14 @@
-//! The text of station sheets: the counts, a line for each turnout and route; the plan as comments.
+//! The text of station sheets: the counts, a line for each turnout and route; the plan as comments. Turnouts are tied
+//! together by `group N`; the older words `crossover with N` are still read.
 
 use crate::lines::{end, lines, number_after, Line, TextError};
 use crate::{plan, words};
 use reference::drafts::Sheet;
-use reference::sheet::{SheetFault, ELECTRIC, HAND, NO_PARTNER};
+use reference::group::ALONE;
+use reference::sheet::{SheetFault, ELECTRIC, HAND};
 use reference::station::{Drive, Route, Station, Turnout};
 
-const DRIVES: [(&str, u8); 2] = [("electric", ELECTRIC), ("hand with key lock", HAND)];
+pub const DRIVES: [(&str, u8); 2] = [("electric", ELECTRIC), ("hand with key lock", HAND)];
 
 pub fn show(station: &Station) -> String {
     let (turnouts, routes) = (&station.turnouts, &station.routes);
@@ -30,11 +32,11 @@ pub fn show(station: &Station) -> String {
 }
 
 fn turnout_fields(turnout: &Turnout) -> String {
-    let partner = match turnout.partner {
-        Some(partner) => format!("crossover with {partner}"),
+    let group = match turnout.group {
+        Some(number) => format!("group {number}"),
         None => "alone".to_string(),
     };
-    format!("zone {}, {partner}, {}", turnout.zone, drive(turnout.drive))
+    format!("zone {}, {group}, {}", turnout.zone, drive(turnout.drive))
 }
 
 pub fn drive(drive: Drive) -> &'static str {
@@ -55,15 +57,54 @@ fn route_fields(route: &Route) -> String {
     )
 }
 
+/// Words that tie turnouts together, and the version of the sheets that tie them so.
+#[derive(Clone, Copy)]
+struct Tie {
+    words: &'static str,
+    version: u16,
+}
+
+/// SHEET-2: the number of the turnout's group.
+const GROUP: Tie = Tie { words: "group", version: 2 };
+/// SHEET-13: the other end of a crossover, which names this one back.
+const CROSSOVER: Tie = Tie { words: "crossover with", version: 1 };
+
 /// A sheet described by a text, not yet read by the sheet's rules, and the lines that its records stand on.
 pub struct Described {
+    /// Of version 1 where the text has the older words.
     pub sheet: Sheet,
     station_line: usize,
+    /// The first line that ties a turnout to others, and its words, which all others must have: a crossover numbered
+    /// beside groups might take the number of one.
+    tied: Option<(usize, Tie)>,
     turnout_lines: Vec<usize>,
     route_lines: Vec<usize>,
 }
 
 impl Described {
+    fn new(sheet: Sheet, station_line: usize) -> Described {
+        Described { sheet, station_line, tied: None, turnout_lines: Vec::new(), route_lines: Vec::new() }
+    }
+
+    /// The next turnout: its zone, its group or partner, its drive.
+    fn turnout(&mut self, line: &mut Line) -> Result<(), TextError> {
+        let zone = line.byte("zone")?;
+        let (tie, number) = match self.tied {
+            None => line.take("'alone' or 'group N', N from 0 to 254", |field| tied(field, &[GROUP, CROSSOVER]))?,
+            Some((first, tie)) => {
+                let expected = format!("'alone' or '{} N', N from 0 to 254, as on line {first}", tie.words);
+                line.take(&expected, |field| tied(field, &[tie]))?
+            }
+        };
+        if let (None, Some(tie)) = (self.tied, tie) {
+            self.tied = Some((line.number, tie));
+            self.sheet.version = tie.version;
+        }
+        self.sheet.turnouts.push([zone, number, line.choice(&DRIVES)?]);
+        self.turnout_lines.push(line.number);
+        Ok(())
+    }
+
     /// The line of the record that a refusal names; else that of the counts.
     pub fn line_of(&self, fault: SheetFault) -> usize {
         match fault {
@@ -87,15 +128,11 @@ pub fn read(text: &str) -> Result<Described, TextError> {
     };
     let mut station = next("station", "turnouts N, routes N, zones N")?;
     let (turnouts, routes) = (station.byte("turnouts")?, station.byte("routes")?);
-    let sheet = Sheet::new(station.byte("zones")?);
+    let mut described = Described::new(Sheet::of_version_2(station.byte("zones")?), station.number);
     station.end()?;
-    let mut described =
-        Described { sheet, station_line: station.number, turnout_lines: Vec::new(), route_lines: Vec::new() };
     for n in 0..turnouts {
-        let mut line =
-            next(&format!("turnout {n}"), "zone N, alone or crossover with N, electric or hand with key lock")?;
-        described.sheet.turnouts.push(read_turnout(&mut line)?);
-        described.turnout_lines.push(line.number);
+        let mut line = next(&format!("turnout {n}"), "zone N, alone or group N, electric or hand with key lock")?;
+        described.turnout(&mut line)?;
         line.end()?;
     }
     for n in 0..routes {
@@ -114,12 +151,10 @@ pub fn read(text: &str) -> Result<Described, TextError> {
     }
 }
 
-/// Zone, partner, drive.
-fn read_turnout(line: &mut Line) -> Result<[u8; 3], TextError> {
-    let zone = line.byte("zone")?;
-    let partner = line.take("'alone' or 'crossover with N', N from 0 to 254", |field| match field {
-        "alone" => Some(NO_PARTNER),
-        _ => number_after(field, "crossover with", 0, 254).map(|partner| partner as u8),
-    })?;
-    Ok([zone, partner, line.choice(&DRIVES)?])
+/// Whether a turnout is tied to others, by one of these words, and the number after them.
+fn tied(field: &str, ties: &[Tie]) -> Option<(Option<Tie>, u8)> {
+    if field == "alone" {
+        return Some((None, ALONE));
+    }
+    ties.iter().find_map(|tie| Some((Some(*tie), number_after(field, tie.words, 0, 254)? as u8)))
 }

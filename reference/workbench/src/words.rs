@@ -142,7 +142,7 @@ fn declared(clearance: &Clearance) -> String {
         position(clearance.position),
         clamp(clearance.clamp),
         medium(clearance.channel),
-        if clearance.covers_both_ends { ", covering both ends" } else { "" }
+        if clearance.covers_group { ", covering the whole group" } else { "" }
     )
 }
 
@@ -164,11 +164,11 @@ pub fn check(content: &Content, refusal: Refusal) -> &'static str {
         (Refusal::Occupied, WorkAsked { .. }) => "work in zone",
         (Refusal::Occupied, MovementAsked { .. }) => "movement in zone",
         (Refusal::Occupied, _) => "cleared already, or with a key",
-        (Refusal::Place, WorkAsked { .. }) => "a empty, outside the zone or splitting a crossover (Art. 2.16, 2.19)",
+        (Refusal::Place, WorkAsked { .. }) => "a empty, outside the zone or splitting a group (Art. 2.16, 2.19)",
         (Refusal::Place, DetectionOff { .. }) => "both empty, overlapping or outside the work",
         (Refusal::Place, MovementAsked { .. }) => "route not below R or of another zone",
         (Refusal::Place, Cleared(_) | KeyUsed { .. }) => "not under agreed work or not named",
-        (Refusal::Place, _) => "a empty, not a proper part of the work, or splitting a crossover",
+        (Refusal::Place, _) => "a empty, not a proper part of the work, or splitting a group",
         (Refusal::Stage, Agreed) => "work agreed already",
         (Refusal::Stage, Withdrawn) => "work agreed",
         (Refusal::Stage, Ordered(_)) => "movement ordered already",
@@ -180,7 +180,7 @@ pub fn check(content: &Content, refusal: Refusal) -> &'static str {
         (Refusal::Conflict, _) => "a standing movement names a turnout of the work",
         (Refusal::Unfit, _) => {
             "position, declaration and clamp must fit the route and the drive (Annex C, Art. 4.10); declarations 1 and \
-             2 on a crossover cover both ends, no other clearance does (Art. 3.24)"
+             2 on a turnout of a group cover the whole group, no other clearance does (Art. 3.24)"
         }
         (Refusal::Channel, _) => "voice needs a working recorder, written one that is out (Art. 3.26)",
         (Refusal::Regime, DetectionOff { .. }) => "b not empty under verbal (Art. 3.19, 3.20)",
@@ -196,7 +196,7 @@ pub fn check(content: &Content, refusal: Refusal) -> &'static str {
 pub fn met(content: &Content) -> &'static str {
     match content {
         Content::WorkAsked { .. } => {
-            "no other work in the zone; turnouts of the zone, no crossover split (Art. 2.16, 2.19)"
+            "no other work in the zone; turnouts of the zone, no group split (Art. 2.16, 2.19)"
         }
         Content::Agreed => "work asked, not yet agreed; no standing movement names a turnout of the work",
         Content::Withdrawn => "work asked, not agreed",
@@ -204,14 +204,14 @@ pub fn met(content: &Content) -> &'static str {
         Content::MovementAsked { .. } => "no other movement in the zone; a route of the zone",
         Content::Cleared(_) => {
             "under agreed work, named by the route, neither cleared nor with a key; position, declaration and clamp \
-             fit (Annex C), and so do the ends it covers (Art. 3.24); the medium fits the recorder (Art. 3.26)"
+             fit (Annex C), and so does what it covers (Art. 3.24); the medium fits the recorder (Art. 3.26)"
         }
         Content::Ordered(Aspect::Clear) => "not yet ordered; clear needs the regime clear",
         Content::Ordered(Aspect::Danger) => "not yet ordered; danger needs a regime that is not held",
         Content::Passed => "movement ordered",
         Content::Cancelled => "movement not ordered",
         Content::PartRestored { .. } => {
-            "work agreed under verbal (Art. 2.13); a proper part, no crossover split; no standing movement names it"
+            "work agreed under verbal (Art. 2.13); a proper part, no group split; no standing movement names it"
         }
         Content::AllRestored => "work agreed; no standing movement names a turnout of the work",
         Content::Recorder { .. } => "no check after the time",

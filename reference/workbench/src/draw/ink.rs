@@ -7,9 +7,11 @@ pub const STRIPE: &str = "fill=\"#f6f6f6\"";
 pub const RULE: &str = "stroke=\"#cccccc\"";
 
 pub const TRACK: &str = "fill=\"none\" stroke=\"#000000\" stroke-width=\"2\"";
-/// Around a crossover's line, where it crosses another.
+/// Around a group's lines, where they cross another's.
 pub const GAP: &str = "fill=\"none\" stroke=\"#ffffff\" stroke-width=\"6\"";
-pub const CROSSOVER: &str = "fill=\"none\" stroke=\"#000000\" stroke-width=\"1.5\"";
+pub const GROUP: &str = "fill=\"none\" stroke=\"#000000\" stroke-width=\"1.5\"";
+/// Where a drop ends at its group's bar.
+pub const DOT: &str = "fill=\"#000000\" stroke=\"none\"";
 pub const BLACK: &str = "fill=\"#000000\"";
 pub const LOCK: &str = "fill=\"#ffffff\" stroke=\"#000000\" stroke-width=\"1.5\"";
 

@@ -4,7 +4,7 @@ use super::legend::{self, Entry};
 use super::sheet_zone::ZonePlan;
 use super::svg::{Point, Svg};
 use super::symbols::{self, Branch, Part};
-use super::{crossovers, LEAST_WIDTH, MARGIN};
+use super::{group_bars, LEAST_WIDTH, MARGIN};
 use crate::words;
 use reference::clearance::Position;
 use reference::station::{Drive, Station};
@@ -55,7 +55,7 @@ fn placed(zones: &[ZonePlan]) -> (Vec<Point>, i32, i32) {
 const LEGEND: &[Entry] = &[
     Entry { words: "turnout, electric", width: 18, draw: |svg, at| turnout(svg, at, Drive::Electric) },
     Entry { words: "turnout by hand, with key lock", width: 18, draw: |svg, at| turnout(svg, at, Drive::Hand) },
-    Entry { words: "crossover, between its two ends", width: 44, draw: crossover },
+    Entry { words: "group of turnouts, with its number", width: 82, draw: group },
     Entry { words: "run over", width: 18, draw: |svg, at| mark(svg, at, Part::RunOver, Position::Normal) },
     Entry { words: "flank", width: 18, draw: |svg, at| mark(svg, at, Part::Flank, Position::Normal) },
     Entry { words: "exit zone", width: 18, draw: |svg, at| mark(svg, at, Part::ExitZone, Position::Normal) },
@@ -68,10 +68,11 @@ fn turnout(svg: &mut Svg, (x, y): Point, drive: Drive) {
     symbols::drive(svg, (x + 9, y + 9), drive);
 }
 
-fn crossover(svg: &mut Svg, (x, y): Point) {
-    let left = symbols::turnout(svg, (x + 9, y + 8), Branch::Right);
-    let right = symbols::turnout(svg, (x + 35, y + 8), Branch::Left);
-    crossovers::bracket(svg, left, right, 1);
+fn group(svg: &mut Svg, (x, y): Point) {
+    let turnouts = [(x + 21, Branch::Right), (x + 47, Branch::Right), (x + 73, Branch::Left)];
+    let ends = turnouts.map(|(x, branch)| symbols::turnout(svg, (x, y + 8), branch));
+    group_bars::bar(svg, &ends, 1);
+    group_bars::number(svg, ends[0], 1, 0);
 }
 
 fn mark(svg: &mut Svg, (x, y): Point, part: Part, position: Position) {
@@ -86,9 +87,13 @@ fn reverse(svg: &mut Svg, (x, y): Point) {
 
 #[cfg(test)]
 mod tests {
+    use super::super::group_bars::NUMBER as BAR_NUMBER;
+    use super::super::ink;
+    use super::super::sheet_zone::{NUMBER, OF_GROUP};
     use super::super::svg::reading::{texts, well_formed};
+    use super::super::text::Face;
     use super::*;
-    use reference::builders::{largest_station, plain_station, station_k};
+    use reference::builders::{group_station, largest_station, plain_station, station_k};
     use reference::drafts::Sheet;
     use reference::sheet::{self, HAND};
 
@@ -104,15 +109,64 @@ mod tests {
         texts(picture).iter().filter(|text| **text == words).count()
     }
 
+    /// How often the number stands in the picture in that face.
+    fn times_in(picture: &str, face: Face, number: usize) -> usize {
+        picture.matches(&format!("{}>{number}</text>", face.attributes())).count()
+    }
+
     #[test]
     fn every_turnout_and_route() {
-        for sheet in [station_k(), largest_station(), plain_station(64, 0), plain_station(64, 15)] {
-            let (station, picture) = drawn(&sheet);
+        let sheets = [station_k(), largest_station(), plain_station(64, 0), plain_station(64, 15), group_station()];
+        for sheet in sheets.iter().chain(&[interleaved(), in_eights()]) {
+            let (station, picture) = drawn(sheet);
             for n in 0..station.turnouts.len() {
-                assert_eq!(times(&picture, &n.to_string()), 1, "turnout {n}");
+                assert_eq!(times_in(&picture, NUMBER, n), 1, "turnout {n}");
             }
             for n in 0..station.routes.len() {
                 assert_eq!(times(&picture, &format!("route {n}")), 1, "route {n}");
+            }
+        }
+    }
+
+    /// Groups of 2, 3 and 8 whose turnouts are mixed; 10 is alone.
+    fn interleaved() -> Sheet {
+        let numbers = [0, 3, 31, 31, 3, 0, 3, 31, 31, 31, 255, 31, 31, 31];
+        Sheet::of_version_2(1).carriers(0, HAND, &numbers).route(0, &[0, 1, 2], &[], &[], &[0, 1])
+    }
+
+    /// 64 turnouts in 8 groups of 8, each turnout in the group after that of the turnout before.
+    fn in_eights() -> Sheet {
+        Sheet::of_version_2(1).carriers(0, HAND, &(0..64).map(|n| n % 8).collect::<Vec<u8>>())
+    }
+
+    /// Each group has its name, its number at its bar, and a dot for each turnout between the first and the last. The
+    /// legend has a group 0 of three.
+    #[test]
+    fn every_group() {
+        for sheet in [station_k(), group_station(), interleaved(), in_eights(), largest_station()] {
+            let (station, picture) = drawn(&sheet);
+            let groups = station.groups();
+            for (number, turnouts) in groups.iter() {
+                let name = format!("<title>group {number}: {}</title>", words::set(turnouts));
+                assert_eq!(picture.matches(&name).count(), 1, "{name}");
+                assert_eq!(times_in(&picture, BAR_NUMBER, number.into()), 1 + usize::from(number == 0));
+            }
+            assert_eq!(picture.matches("<title>group ").count(), groups.iter().count());
+            let inner: u32 = groups.iter().map(|(_, turnouts)| turnouts.count_ones() - 2).sum();
+            let dots = format!(" r=\"2\" {}", ink::DOT);
+            assert_eq!(picture.matches(&dots).count() as u32, inner + 1);
+        }
+    }
+
+    /// Each turnout has its group's number below its own where bars overlap, and only there.
+    #[test]
+    fn numbers_of_groups() {
+        for (sheet, overlapping) in [(interleaved(), true), (in_eights(), true), (group_station(), false)] {
+            let (station, picture) = drawn(&sheet);
+            assert_eq!(times(&picture, "of group"), usize::from(overlapping));
+            for (number, turnouts) in station.groups().iter() {
+                let expected = if overlapping { turnouts.count_ones() as usize } else { 0 };
+                assert_eq!(times_in(&picture, OF_GROUP, number.into()), expected, "group {number}");
             }
         }
     }
@@ -144,7 +198,7 @@ mod tests {
         let (_, picture) = drawn(&Sheet::new(3).turnout(1, HAND));
         assert_eq!(times(&picture, "no turnouts, so no routes"), 2);
         assert_eq!(times(&picture, "no routes"), 1);
-        assert_eq!(times(&picture, "1 turnout: 0 electric, 1 by hand; 0 crossovers; 0 routes"), 1);
+        assert_eq!(times(&picture, "1 turnout: 0 electric, 1 by hand; 0 groups; 0 routes"), 1);
     }
 
     #[test]

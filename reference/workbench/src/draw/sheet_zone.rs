@@ -1,18 +1,19 @@
-//! One zone of a station's plan, as a box: its turnouts as columns with their crossovers above, and below them a row
-//! for each route with the marks of the turnouts it names.
+//! One zone of a station's plan, as a box: its turnouts as columns with their groups above, and below them a row for
+//! each route with the marks of the turnouts it names.
 
-use super::crossovers::{bracket, levelled, Bracket, LEVEL};
+use super::group_bars::{self, levelled, Bar, LEVEL};
 use super::ink;
 use super::svg::{Area, Point, Svg};
 use super::symbols::{self, Branch, Part, BRANCH};
 use super::text::Face;
-use crate::{plan, words};
+use crate::{groups, words};
 use reference::set::members;
 use reference::station::{Drive, Route, Station, Turnout};
 
 const NAME: Face = Face::of(13).bold();
 const COUNTS: Face = Face::of(11);
-const NUMBER: Face = Face::of(11).bold().centred();
+pub const NUMBER: Face = Face::of(11).bold().centred();
+pub const OF_GROUP: Face = Face::of(11).centred();
 const LABEL: Face = Face::of(11);
 const PADDING: i32 = 10;
 /// The room for the rows' names, left of the columns.
@@ -24,13 +25,12 @@ const NUMBERS: i32 = 18;
 const ROUTES_TOGETHER: usize = 16;
 
 pub struct ZonePlan<'s> {
-    station: &'s Station,
     number: u8,
     /// The width of a turnout's column.
     column: i32,
     turnouts: Vec<(u8, &'s Turnout)>,
     routes: Vec<(usize, &'s Route)>,
-    brackets: Vec<Bracket>,
+    bars: Vec<Bar>,
 }
 
 impl<'s> ZonePlan<'s> {
@@ -38,10 +38,8 @@ impl<'s> ZonePlan<'s> {
         let of_zone = station.of_zone(number);
         let turnouts: Vec<_> = members(of_zone).filter_map(|n| Some((n, station.turnout(n)?))).collect();
         let routes = station.routes.iter().enumerate().filter(|(_, route)| route.zone == number).collect();
-        let place = |n: u8| turnouts.iter().position(|(other, _)| *other == n);
-        let ends = station.pairs(of_zone).filter(|(n, partner)| n < partner);
-        let brackets = levelled(ends.filter_map(|(n, partner)| Some((place(n)?, place(partner)?))).collect());
-        ZonePlan { station, number, column, turnouts, routes, brackets }
+        let bars = levelled(groups::of(station, of_zone), &members(of_zone).collect::<Vec<u8>>());
+        ZonePlan { number, column, turnouts, routes, bars }
     }
 
     pub fn width(&self) -> i32 {
@@ -72,7 +70,7 @@ impl<'s> ZonePlan<'s> {
         svg.rect(frame, ink::FRAME);
     }
 
-    /// `3 turnouts: 2 electric, 1 by hand; 1 crossover; 1 route`.
+    /// `3 turnouts: 2 electric, 1 by hand; 1 group; 1 route`.
     fn counts(&self) -> String {
         if self.turnouts.is_empty() {
             return "no turnouts, so no routes".to_string();
@@ -82,20 +80,33 @@ impl<'s> ZonePlan<'s> {
             "{}: {} electric, {by_hand} by hand; {}; {}",
             words::count(self.turnouts.len(), "turnout"),
             self.turnouts.len() - by_hand,
-            words::count(plan::crossovers(self.station, self.station.of_zone(self.number)).len(), "crossover"),
+            words::count(self.bars.len(), "group"),
             words::count(self.routes.len(), "route")
         )
     }
 
-    /// The y of the turnouts' tracks in the box: below the highest bracket.
+    /// How many bars of groups stand one over the other.
+    fn levels(&self) -> i32 {
+        self.bars.iter().map(|bar| bar.level).max().unwrap_or(0)
+    }
+
+    /// The y of the turnouts' tracks in the box: below the highest bar.
     fn track(&self) -> i32 {
-        let levels = self.brackets.iter().map(|bracket| bracket.level).max().unwrap_or(0);
-        HEADER + PADDING + LEVEL * levels + BRANCH
+        HEADER + PADDING + LEVEL * self.levels() + BRANCH
+    }
+
+    /// The height of the turnouts' numbers; where bars overlap, each turnout has its group's number below its own.
+    fn heads(&self) -> i32 {
+        if self.levels() > 1 {
+            2 * NUMBERS
+        } else {
+            NUMBERS
+        }
     }
 
     /// The y of the first route's row in the box: below tracks, drives and numbers.
     fn rows_top(&self) -> i32 {
-        self.track() + 22 + NUMBERS
+        self.track() + 22 + self.heads()
     }
 
     /// The y of a row from the first one's.
@@ -108,19 +119,20 @@ impl<'s> ZonePlan<'s> {
         left + LABELS + self.column * n as i32 + self.column / 2
     }
 
-    /// Tracks, drives and crossovers; `y` is that of the tracks.
+    /// Tracks, drives and groups; `y` is that of the tracks. The last turnout of a group has its branch to the left,
+    /// towards the others.
     fn schematic(&self, svg: &mut Svg, (left, y): Point) {
-        let ends = self.turnouts.iter().enumerate().map(|(n, (number, turnout))| {
+        let ends = self.turnouts.iter().enumerate().map(|(n, (_, turnout))| {
             let x = self.column(left, n);
-            let side =
-                if turnout.partner.is_some_and(|partner| partner < *number) { Branch::Left } else { Branch::Right };
+            let side = if self.bars.iter().any(|bar| bar.right() == n) { Branch::Left } else { Branch::Right };
             symbols::drive(svg, (x, y + 13), turnout.drive);
             symbols::turnout(svg, (x, y), side)
         });
         let ends: Vec<Point> = ends.collect();
-        for Bracket { left, right, level } in &self.brackets {
-            bracket(svg, ends[*left], ends[*right], *level);
+        if !self.bars.is_empty() {
+            svg.text((left, y - BRANCH - LEVEL + 4), LABEL, "group");
         }
+        group_bars::draw(svg, &self.bars, &ends);
     }
 
     fn numbers(&self, svg: &mut Svg, (left, y): Point) {
@@ -130,9 +142,21 @@ impl<'s> ZonePlan<'s> {
         }
     }
 
+    fn numbers_of_groups(&self, svg: &mut Svg, (left, y): Point) {
+        svg.text((left, y + 13), LABEL, "of group");
+        for bar in &self.bars {
+            for n in &bar.columns {
+                svg.text((self.column(left, *n), y + 13), OF_GROUP, &bar.group.number.to_string());
+            }
+        }
+    }
+
     /// The routes with their marks; `y` is that of the first row.
     fn rows(&self, svg: &mut Svg, (left, y): Point) {
-        self.numbers(svg, (left, y - NUMBERS));
+        self.numbers(svg, (left, y - self.heads()));
+        if self.levels() > 1 {
+            self.numbers_of_groups(svg, (left, y - NUMBERS));
+        }
         for (n, (number, route)) in self.routes.iter().enumerate() {
             let y = y + self.row(n);
             if n > 0 && n.is_multiple_of(ROUTES_TOGETHER) {

@@ -12,7 +12,7 @@ pub const BRANCH: i32 = 9;
 const LETTER: Face = Face::of(8).bold().centred();
 const WHITE: &str = "#ffffff";
 
-/// Where the branch of a turnout goes: its second track, or the other end of its crossover.
+/// Where the branch of a turnout goes: its second track, or towards the others of its group.
 #[derive(Clone, Copy, Debug, PartialEq, Eq)]
 pub enum Branch {
     Left,

@@ -67,17 +67,17 @@ fn explanation_of_minutes() {
     }
 }
 
-/// On random journals the explanation gives the answers of the replay, and every refusal a reason.
+/// On random journals the explanation gives the answers of the replay, and every refusal a reason; on station K, and
+/// on one with larger groups.
 #[test]
 fn explanation_of_random_journals() {
     let folder = Folder::new("explain_random");
-    let sheet_bytes = station_k().bytes();
-    let station = sheet::read(&sheet_bytes).expect("station K reads");
-    let sheet_path = folder.file("sheet", &sheet_bytes);
+    let (k, groups) = (station_k().bytes(), group_station().bytes());
     let mut random = Random(2);
     let mut seen = BTreeSet::new();
     let mut all_told = String::new();
-    for _ in 0..24 {
+    for bytes in [&k; 24].into_iter().chain([&groups; 4]) {
+        let (station, sheet_path) = (sheet::read(bytes).expect("a good sheet"), folder.file("sheet", bytes));
         let records = random_records(&mut random, 1024);
         let journal = journal_of(&records);
         let told = text(&["explain", &sheet_path, &folder.file("journal", &journal)]);
@@ -93,8 +93,10 @@ fn explanation_of_random_journals() {
         }
         all_told += &told;
     }
-    for ends in ["must cover both ends", "no other end to cover", "may not say that it covers", "covering both ends"] {
-        assert!(all_told.contains(ends), "{ends}");
+    let covered = ["must cover the whole group", "may not say that it covers the whole group", "no group to cover"];
+    let parts = ["covering the whole group", "group 0, {0} and not {1}", "group 0, {0,1} and not {2}"];
+    for words in covered.iter().chain(&parts) {
+        assert!(all_told.contains(words), "{words}");
     }
     let codes: BTreeSet<u8> = seen.iter().map(|(_, code)| *code).collect();
     assert_eq!(codes, BTreeSet::from([0, 11, 12, 13, 14, 15, 16, 17, 18, 19, 20, 21, 22, 23]));

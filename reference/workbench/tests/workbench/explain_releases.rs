@@ -5,7 +5,7 @@ use reference::builders::*;
 
 /// FIT-4: what d5 says, and why it makes a clearance unfit.
 #[test]
-fn explanation_of_both_ends() {
+fn explanation_of_whole_groups() {
     let clearance =
         |turnout: u8, declaration: u8| cleared(512, [turnout, declaration, 0, u8::from(declaration == 4), 1]);
     let messages = [
@@ -13,39 +13,39 @@ fn explanation_of_both_ends() {
         agreed(7),
         movement_asked(512, 0),
         clearance(0, 1),
-        clearance(0, 4).both_ends(),
-        clearance(2, 8).both_ends(),
-        clearance(2, 3).both_ends().d(2, 1),
-        clearance(0, 1).both_ends(),
+        clearance(0, 4).whole_group(),
+        clearance(2, 8).whole_group(),
+        clearance(2, 3).whole_group().d(2, 1),
+        clearance(0, 1).whole_group(),
         clearance(2, 2),
     ];
-    let parts = explained("explain_ends", &station_k(), &messages);
-    let rule = "declarations 1 and 2 on a crossover cover both ends, no other clearance does (Art. 3.24). Here: ";
+    let parts = explained("explain_whole", &station_k(), &messages);
+    let rule = "on a turnout of a group cover the whole group, no other clearance does (Art. 3.24). Here: ";
     let expected = [
         [
             "declaration 1 (all efficient), normal, no clamp, by voice.\n",
             "Answer 20, 0 minutes: refused: position, declaration and clamp must fit",
-            "Here: declaration 1 on turnout 0, one end of a crossover, must cover both ends. Nothing altered.",
+            "Here: declaration 1 on turnout 0 of group 0, {0,1}, must cover the whole group. Nothing altered.",
         ],
         [
-            "declaration 4 (lacks more than detection), normal, clamped, by voice, covering both ends.\n",
+            "declaration 4 (lacks more than detection), normal, clamped, by voice, covering the whole group.\n",
             "Answer 20, 0 minutes: refused: ",
-            "Here: declaration 4 covers one turnout: it may not say that it covers both ends. Nothing altered.",
+            "Here: declaration 4 on turnout 0 of group 0, {0,1}, may not say that it covers the whole group.",
         ],
         [
-            "declaration 8 (lacks more than detection), normal, no clamp, by voice, covering both ends.\n",
+            "declaration 8 (lacks more than detection), normal, no clamp, by voice, covering the whole group.\n",
             rule,
-            "Here: turnout 2 is alone: there is no other end to cover. Nothing altered.",
+            "Here: turnout 2 is alone: there is no group to cover. Nothing altered.",
         ],
         [
             "Here: the route has turnout 2 normal; ",
             "; declaration 3 does not fit the drive, hand with key lock; ",
-            "; turnout 2 is alone: there is no other end to cover. Nothing altered.",
+            "; turnout 2 is alone: there is no group to cover. Nothing altered.",
         ],
         [
-            "declaration 1 (all efficient), normal, no clamp, by voice, covering both ends.\n",
+            "declaration 1 (all efficient), normal, no clamp, by voice, covering the whole group.\n",
             "Answer 0, 0 minutes: accepted: ",
-            "and so do the ends it covers (Art. 3.24)",
+            "and so does what it covers (Art. 3.24)",
         ],
         ["by voice.\n", "Answer 0, 0 minutes: accepted: ", "Regime: clear, {0,2} cleared as all efficient."],
     ];
@@ -65,14 +65,14 @@ fn explanation_of_keys() {
     ];
     let talk = [
         key_used(512, 2, 2),
-        cleared(512, [2, 1, 0, 0, 1]).both_ends(),
+        cleared(512, [2, 1, 0, 0, 1]).whole_group(),
         key_used(512, 5, 2),
         key_used(512, 4, 1),
         key_used(512, 1, 1),
         key_used(513, 3, 1),
         key_used(512, 4, 2),
-        cleared(512, [3, 1, 0, 0, 1]).both_ends(),
-        cleared(512, [0, 2, 0, 0, 1]).both_ends(),
+        cleared(512, [3, 1, 0, 0, 1]).whole_group(),
+        cleared(512, [0, 2, 0, 0, 1]).whole_group(),
         key_used(512, 3, 1),
         cleared(512, [5, 1, 0, 0, 1]),
         cancelled(512),

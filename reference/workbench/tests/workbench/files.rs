@@ -1,17 +1,29 @@
 //! Sheets copied, sheets checked for the cabin panel, and files that every command refuses.
 
-use crate::{failure, large_station, text, Folder};
+use crate::{failure, in_version_2, large_station, text, Folder};
 use reference::builders::*;
 use reference::drafts::Sheet;
 use reference::sheet::HAND;
 use std::fs;
 
-/// WRITE-2: "a sheet that was read and written comes out byte for byte".
+/// WRITE-5: a sheet of version 1 becomes one of version 2, and the program says so.
+#[test]
+fn sheets_turned_into_version_2() {
+    let folder = Folder::new("turned");
+    for sheet in [station_k(), large_station(), largest_station(), Sheet::new(1).turnout(0, HAND)] {
+        let (given, copy) = (folder.file("given", sheet.bytes()), folder.path("copy"));
+        let said = format!("{copy}: {} bytes written\n{copy}: version 2, made from version 1", sheet.bytes().len());
+        assert_eq!(text(&["copy-sheet", &given, &copy]), said + ": crossovers are groups\n");
+        assert_eq!(fs::read(&copy).expect("written"), in_version_2(&sheet));
+    }
+}
+
+/// WRITE-2: "A sheet of version 2 that is read and written comes out byte for byte."
 #[test]
 fn sheets_copied() {
     let folder = Folder::new("copied");
-    let smallest = Sheet::new(1).turnout(0, HAND);
-    for sheet in [station_k(), large_station(), largest_station(), smallest] {
+    let smallest = Sheet::of_version_2(1).turnout(0, HAND);
+    for sheet in [station_k_in_version_2(), group_station(), largest_station_in_version_2(), smallest] {
         let bytes = sheet.bytes();
         let (given, copy) = (folder.file("given", &bytes), folder.file("copy", [7; 3000]));
         assert_eq!(text(&["copy-sheet", &given, &copy]), format!("{copy}: {} bytes written\n", bytes.len()));
@@ -29,6 +41,8 @@ fn sheets_for_the_panel() {
     let folder = Folder::new("panel");
     let taken = [
         (station_k(), "3 turnouts, 1 route, 1 zone"),
+        (station_k_in_version_2(), "3 turnouts, 1 route, 1 zone"),
+        (group_station(), "14 turnouts, 2 routes, 1 zone"),
         (largest_panel_station(), "16 turnouts, 8 routes, 2 zones"),
         (Sheet::new(8).turnout(7, HAND), "1 turnout, 0 routes, 8 zones"),
     ];
@@ -65,7 +79,9 @@ fn refused_files() {
         ),
         (good[..7].to_vec(), "refused by 1: "),
         (changed(0, 0), "refused by 2: "),
-        (changed(4, 2), "refused by 3: version: 16 bits, 1. Here: version 2\n"),
+        (changed(4, 0), "refused by 3: version: 16 bits, 1 or 2. Here: version 0\n"),
+        (changed(4, 3), "refused by 3: version: 16 bits, 1 or 2. Here: version 3\n"),
+        (changed(3, 1), "refused by 3: version: 16 bits, 1 or 2. Here: version 257\n"),
         (changed(7, 0), "refused by 4: "),
         (changed(16, 2), "refused by 5: turnout record 2: "),
         (changed(17, 1), "refused by 6: route record 0: "),

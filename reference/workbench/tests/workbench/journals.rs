@@ -20,19 +20,32 @@ fn journal_of_station_k() {
 
 /// RECORD-3, RECORD-4: a d5 of 1 stands at the line's end, a d5 of 0 has no words, any other does not read.
 #[test]
-fn journal_with_both_ends() {
+fn journal_with_whole_groups() {
     let clearance = cleared(512, [0, 1, 0, 0, 1]).at(115);
-    let shown = round_trip("both_ends", "journal", &journal(&[0, 1, 2, 255].map(|d5| clearance.d(5, d5))));
+    let shown = round_trip("whole_groups", "journal", &journal(&[0, 1, 2, 255].map(|d5| clearance.d(5, d5))));
     let line =
         "clearance: time 115, zone 0, train 512, turnout 0, declaration 1, position normal, no clamp, medium voice";
     let lines: Vec<&str> = shown.lines().skip(1).collect();
     assert_eq!(lines[0], format!("{line}  # 1"));
-    assert_eq!(lines[1], format!("{line}, covers both ends  # 2"));
+    assert_eq!(lines[1], format!("{line}, covers the whole group  # 2"));
     assert!(lines[2].starts_with("bytes: 06 00 00000073 00000200 "));
     assert!(lines[2].ends_with(" 000100000102  # 3; does not read, 13: d5 is 2, not 0 or 1"), "{shown}");
     assert!(lines[3].ends_with("# 4; does not read, 13: d5 is 255, not 0 or 1"), "{shown}");
-    let shown = round_trip("both_ends_other", "journal", &journal(&[passed(512).d(5, 1)]));
+    let shown = round_trip("whole_groups_other", "journal", &journal(&[passed(512).d(5, 1)]));
     assert!(shown.ends_with("# 1; does not read, 13: d5 is 1, not 0\n"), "{shown}");
+}
+
+/// The words for a d5 of 1 before M-107 are still read.
+#[test]
+fn journal_with_older_words() {
+    let folder = Folder::new("older_words");
+    let line =
+        "clearance: time 115, zone 0, train 512, turnout 0, declaration 1, position normal, no clamp, medium voice";
+    for words in ["covers both ends", "covers the whole group"] {
+        text(&["make-journal", &folder.file("text", format!("{line}, {words}\n")), &folder.path("made")]);
+        let made = fs::read(folder.path("made")).expect("written");
+        assert_eq!(made, journal(&[cleared(512, [0, 1, 0, 0, 1]).at(115).d(5, 1)]), "{words}");
+    }
 }
 
 /// RECORD-3, RECORD-4: a key by its name; any other d1 does not read.
@@ -122,7 +135,7 @@ fn bad_journal_texts() {
         ("movement asked: time 1, zone 0, train 7, route 64", "line 2: expected 'route N', N from 0 to 63"),
         (
             "clearance: time 1, zone 0, train 7, turnout 0, declaration 1, position normal, no clamp, medium voice, x",
-            "line 2: expected 'covers both ends' or the end of the line; found 'x'",
+            "line 2: expected 'covers the whole group' or the end of the line; found 'x'",
         ),
         (
             "clearance: time 1, zone 0, train 7, turnout 0, declaration 1, position normal, no clamp, covers both ends",

@@ -1,8 +1,10 @@
 //! The program `workbench`, run on files, by command. Here: how it is run, and the files of a test.
 
 mod explain;
+mod explain_groups;
 mod explain_releases;
 mod files;
+mod groups;
 mod journals;
 mod pictures;
 mod random;
@@ -10,6 +12,7 @@ mod sheets;
 
 use reference::drafts::Sheet;
 use reference::sheet::{ELECTRIC, HAND};
+use reference::writer;
 use std::path::PathBuf;
 use std::process::{Command, Output};
 use std::{env, fs};
@@ -55,15 +58,45 @@ fn failure(arguments: &[&str]) -> String {
     String::from_utf8(said).expect("UTF-8")
 }
 
-/// Binary to text to binary and to text again: the same.
-fn round_trip(test: &str, what: &str, bytes: &[u8]) -> String {
+/// Binary to text to binary, and to the same text again: the text, and the binary that was made.
+fn shown_and_made(test: &str, what: &str, bytes: &[u8]) -> (String, Vec<u8>) {
     let folder = Folder::new(test);
     let (show, make) = (format!("show-{what}"), format!("make-{what}"));
     let shown = text(&[&show, &folder.file("given", bytes)]);
     text(&[&make, &folder.file("text", &shown), &folder.path("made")]);
-    assert_eq!(fs::read(folder.path("made")).expect("written"), bytes);
     assert_eq!(text(&[&show, &folder.path("made")]), shown);
+    (shown, fs::read(folder.path("made")).expect("written"))
+}
+
+/// Binary to text to binary: the same.
+fn round_trip(test: &str, what: &str, bytes: &[u8]) -> String {
+    let (shown, made) = shown_and_made(test, what, bytes);
+    assert_eq!(made, bytes);
     shown
+}
+
+/// A sheet of version 1 to text to a sheet: the bytes of its version 2, which give the same bytes.
+fn converted(test: &str, sheet: &Sheet) -> String {
+    let (shown, made) = shown_and_made(test, "sheet", &sheet.bytes());
+    assert_eq!(made, in_version_2(sheet));
+    assert_eq!(round_trip(test, "sheet", &made), shown);
+    shown
+}
+
+/// WRITE-5: "A sheet of version 1 is so turned into one of version 2, of the same length".
+fn in_version_2(sheet: &Sheet) -> Vec<u8> {
+    let bytes = sheet.bytes();
+    let mut copy = vec![0; bytes.len()];
+    assert_eq!(writer::copy_sheet(&bytes, &mut copy), [0, 0]);
+    assert_eq!([bytes[4], copy[4]], [1, 2]);
+    copy
+}
+
+/// The sheet that `make-sheet` makes of a text.
+fn sheet_of(test: &str, given: &str) -> Vec<u8> {
+    let folder = Folder::new(test);
+    text(&["make-sheet", &folder.file("text", given), &folder.path("made")]);
+    fs::read(folder.path("made")).expect("written")
 }
 
 /// A text that `make-..` turns down: nothing is written.
@@ -74,7 +107,7 @@ fn bad_text(test: &str, command: &str, given: impl AsRef<[u8]>) -> String {
     said
 }
 
-/// 64 turnouts, 64 routes, 8 zones; both drives, crossovers, every set of a route in use.
+/// 64 turnouts, 64 routes, 8 zones, of version 1; both drives, crossovers, every set of a route in use.
 fn large_station() -> Sheet {
     let mut sheet = Sheet::new(8);
     for zone in 0..8 {

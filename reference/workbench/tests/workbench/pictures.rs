@@ -28,17 +28,40 @@ fn refused(test: &str, command: &str, files: &[&str]) -> String {
 
 #[test]
 fn sheet_of_station_k() {
-    let picture = drawn("sheet_k", "draw-sheet", &[&kept("examples/station-k/sheet")]);
+    let picture = drawn("picture_k", "draw-sheet", &[&kept("examples/station-k/sheet")]);
     assert!(picture.contains(">Station plan: 3 turnouts, 1 route, 1 zone</text>"), "{picture}");
-    assert!(picture.contains(">3 turnouts: 2 electric, 1 by hand; 1 crossover; 1 route</text>"), "{picture}");
+    assert!(picture.contains(">3 turnouts: 2 electric, 1 by hand; 1 group; 1 route</text>"), "{picture}");
     assert!(picture.contains("<title>route 0, turnout 0: run over, normal</title>"), "{picture}");
     assert!(picture.contains("<title>route 0, turnout 2: flank, normal</title>"), "{picture}");
+    assert!(picture.contains("<title>group 0: {0,1}</title>"), "{picture}");
+}
+
+/// SHEET-14: the sheet's version does not show.
+#[test]
+fn sheets_of_either_version() {
+    let folder = Folder::new("either");
+    let pairs = [(station_k(), station_k_in_version_2()), (largest_station(), largest_station_in_version_2())];
+    for (one, two) in pairs {
+        let [one, two] = [one, two].map(|sheet| drawn("drawn", "draw-sheet", &[&folder.file("sheet", sheet.bytes())]));
+        assert!(one == two);
+    }
+}
+
+/// Groups of three, of two and of eight, side by side.
+#[test]
+fn sheet_of_larger_groups() {
+    let sheet = Folder::new("group_files").file("sheet", group_station().bytes());
+    let picture = drawn("groups", "draw-sheet", &[&sheet]);
+    for (number, turnouts) in ["{0,1,2}", "{3,4}", "{5,6,7,8,9,10,11,12}"].iter().enumerate() {
+        assert_eq!(picture.matches(&format!("<title>group {number}: {turnouts}</title>")).count(), 1, "{picture}");
+    }
+    assert!(picture.contains(">14 turnouts: 3 electric, 11 by hand; 3 groups; 2 routes</text>"), "{picture}");
 }
 
 #[test]
 fn journal_of_station_k() {
     let files = [kept("examples/station-k/sheet"), kept("examples/station-k/journal")];
-    let picture = drawn("journal_k", "draw-journal", &[&files[0], &files[1]]);
+    let picture = drawn("picture_journal_k", "draw-journal", &[&files[0], &files[1]]);
     assert!(picture.contains(">Journal: 11 records; station of 3 turnouts, 1 route, 1 zone</text>"), "{picture}");
     let refused = ["refused by 22: the regime is held, {0} without a clearance or a key", "refused by 19: "];
     assert!(refused.iter().all(|words| picture.contains(words)), "{picture}");

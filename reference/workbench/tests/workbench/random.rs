@@ -2,6 +2,7 @@
 
 use reference::builders::message;
 use reference::drafts::Sheet;
+use reference::group::ALONE;
 use reference::message::{Message, RECORD};
 use reference::sheet;
 
@@ -57,7 +58,7 @@ fn with_fields(random: &mut Random, made: Message) -> Message {
     }
 }
 
-/// Turnout, declaration, position, clamp, channel, both ends.
+/// Turnout, declaration, position, clamp, channel, whole group.
 fn random_clearance(random: &mut Random) -> [u8; 6] {
     let mut pick = |limit: u64| random.below(limit);
     let details = [
@@ -71,10 +72,10 @@ fn random_clearance(random: &mut Random) -> [u8; 6] {
     details.map(|detail| detail as u8)
 }
 
-/// A zone and its turnouts that stay together: a crossover or one turnout.
+/// A zone and its turnouts that stay together: a group or one turnout.
 type Unit = (u64, Vec<u8>);
 
-/// Crossovers and single turnouts in random zones; routes that put each of them in one of their sets or in none.
+/// Of version 1: crossovers and single turnouts in random zones.
 pub fn random_station(random: &mut Random) -> Sheet {
     let zones = 1 + random.below(8);
     let mut sheet = Sheet::new(zones as u8);
@@ -85,9 +86,45 @@ pub fn random_station(random: &mut Random) -> Sheet {
         sheet = if pair { sheet.crossover(zone as u8, drive) } else { sheet.turnout(zone as u8, drive) };
         units.push((zone, if pair { vec![first, first + 1] } else { vec![first] }));
     }
+    with_random_routes(random, sheet, &units)
+}
+
+/// Of version 2: groups of 2 to 8 turnouts, numbered at random, and single turnouts, in random zones and mixed.
+pub fn random_groups(random: &mut Random) -> Sheet {
+    let zones = 1 + random.below(8);
+    let mut sheet = Sheet::of_version_2(zones as u8);
+    let mut free: Vec<u8> = (0..32).collect();
+    for _ in 0..2 + random.below(12) {
+        let (zone, drive, size) = (random.below(zones), random.below(2), 1 + random.below(8) as usize);
+        let number = if size == 1 { ALONE } else { free.swap_remove(random.below(free.len() as u64) as usize) };
+        if sheet.turnouts.len() + size <= 64 {
+            sheet = sheet.carriers(zone as u8, drive as u8, &vec![number; size]);
+        }
+    }
+    for n in 1..sheet.turnouts.len() {
+        sheet.turnouts.swap(n, random.below(n as u64 + 1) as usize);
+    }
+    let units = units(&sheet);
+    with_random_routes(random, sheet, &units)
+}
+
+/// The groups of a sheet of version 2, and its single turnouts.
+fn units(sheet: &Sheet) -> Vec<Unit> {
+    let mut units: Vec<(u8, Unit)> = Vec::new();
+    for (n, [zone, number, _]) in (0..).zip(&sheet.turnouts) {
+        match units.iter_mut().find(|(other, _)| other == number && *number != ALONE) {
+            Some((_, (_, turnouts))) => turnouts.push(n),
+            None => units.push((*number, (u64::from(*zone), vec![n]))),
+        }
+    }
+    units.into_iter().map(|(_, unit)| unit).collect()
+}
+
+/// Routes that put each of the units in one of their sets or in none.
+fn with_random_routes(random: &mut Random, mut sheet: Sheet, units: &[Unit]) -> Sheet {
     for _ in 0..random.below(80) {
-        let zone = random.below(zones);
-        let with_route = with_random_route(random, sheet.clone(), zone, &units);
+        let zone = random.below(u64::from(sheet.zones));
+        let with_route = with_random_route(random, sheet.clone(), zone, units);
         if sheet::read(&with_route.bytes()).is_ok() {
             sheet = with_route;
         }

@@ -39,7 +39,7 @@ extern "C" {
  * The version of this interface, raised when a call, a code, a packing, a field of a record or what an answer says
  * changes.
  */
-#define DESK_INTERFACE_VERSION 6
+#define DESK_INTERFACE_VERSION 7
 
 /* The version of a desk's 520 bytes, their byte 0. */
 #define DESK_BYTES_VERSION 1
@@ -64,9 +64,10 @@ enum desk_number {
     DESK_E_ACCEPTED = 0,
     DESK_E_SHEET_LENGTH = 1,   /* sheet: length */
     DESK_E_SHEET_MARK = 2,     /* sheet: mark */
-    DESK_E_SHEET_VERSION = 3,  /* sheet: version */
+    DESK_E_SHEET_VERSION = 3,  /* sheet: version neither 1 nor 2 */
     DESK_E_SHEET_COUNTS = 4,   /* sheet: counts */
-    DESK_E_SHEET_TURNOUT = 5,  /* sheet: bad turnout, with the record's index */
+    DESK_E_SHEET_TURNOUT = 5,  /* sheet: bad turnout, with the record's index; a wrong group with that of the first
+                                  turnout that carries its number */
     DESK_E_SHEET_ROUTE = 6,    /* sheet: bad route, with the record's index */
     DESK_E_NO_SHEET = 7,       /* writing a sheet: no sheet describes the station; no call here gives it, since a
                                   station comes from a sheet */
@@ -131,8 +132,8 @@ enum desk_kind {
     DESK_KIND_MOVEMENT_ASKED = 5,  /* d0: route, 0 to 63 */
     DESK_KIND_CLEARED = 6,         /* d0: turnout, 0 to 63; d1: declaration, 1 to 9; d2: 0 normal, 1 reverse;
                                       d3: 0 no clamp, 1 clamp, 2 attended; d4: 1 voice, 2 written;
-                                      d5: 1 where declaration 1 or 2 is given for a turnout with a partner and covers
-                                      both ends of the crossover, which it must there; else 0 */
+                                      d5: 1 where declaration 1 or 2 is given for a turnout of a group (a crossover is
+                                      a group of two) and covers the whole group, which it must there; else 0 */
     DESK_KIND_ORDERED = 7,         /* d0: 1 signals clear, 2 at danger */
     DESK_KIND_PASSED = 8,
     DESK_KIND_CANCELLED = 9,
@@ -156,9 +157,16 @@ static inline uint8_t desk_code(uint64_t answer) { return (uint8_t)(answer & 255
 /* ---- libworks_desk_journal.a ---- */
 
 /*
- * Reads a sheet (8 + 3P + 33R bytes, at most 2,312). Codes: 0, 1 to 6, in the order length under 8, mark, version,
- * counts, length, turnouts, routes; never 9. Back come the code and the index of the bad turnout or route (0 unless
- * the code is 5 or 6).
+ * A sheet: the letters SPT, version (2 bytes, 1 or 2), counts P of turnouts (1 to 64), R of routes (0 to 64) and Z of
+ * zones (1 to 8), a byte each; P turnouts of 3 bytes: zone, below Z; in version 2 the number of its group, 0 to 31, or
+ * 255 for alone, in version 1 its partner, the other end of its crossover, or 255 for none; drive, 0 electric or 1 hand
+ * with key lock; R routes of 33 bytes: zone, then the sets run over, flank, exit zone and reverse. A group has 2 to 8
+ * turnouts of one zone and one drive. The crossovers of version 1 become groups of two, numbered from 0 in the order of
+ * their lower turnouts.
+ *
+ * Reads a sheet (8 + 3P + 33R bytes, at most 2,312) of either version. Codes: 0, 1 to 6, in the order length under 8,
+ * mark, version, counts, length, turnouts, routes; never 9. Back come the code and the index of the bad turnout or
+ * route (0 unless the code is 5 or 6).
  */
 uint32_t desk_sheet(const uint8_t *sheet, size_t sheet_len);
 
@@ -166,9 +174,11 @@ uint32_t desk_sheet(const uint8_t *sheet, size_t sheet_len);
 static inline uint8_t desk_sheet_index(uint32_t answer) { return (uint8_t)(answer >> 8); }
 
 /*
- * Reads a sheet and writes it into the buffer, which may be longer: checks a corrected sheet and copies it. Codes: 0,
- * the sheet's (1 to 6), 8. It never gives 7. Back come the code and the index, as by desk_sheet. If accepted, the
- * sheet's bytes stand at the start of the buffer and the bytes past them stay; if refused, every byte stays.
+ * Reads a sheet of either version and writes it into the buffer, which may be longer, in version 2: checks a corrected
+ * sheet and copies it, byte for byte where it is of version 2; one of version 1 is turned into the sheet of version 2,
+ * of the same length, that reads as the same station. Codes: 0, the sheet's (1 to 6), 8. It never gives 7. Back come
+ * the code and the index, as by desk_sheet. If accepted, the sheet's bytes stand at the start of the buffer and the
+ * bytes past them stay; if refused, every byte stays.
  */
 uint32_t desk_copy_sheet(const uint8_t *sheet, size_t sheet_len, uint8_t *buffer, size_t buffer_len);
 
@@ -324,10 +334,10 @@ static inline uint8_t desk_verdict_value(uint32_t answer) { return (uint8_t)(ans
 /* ---- libworks_desk_panel.a ---- */
 
 /*
- * Reads a sheet for a cabin panel, which takes at most 16 turnouts and 8 routes (so at most 320 bytes), and as many
- * zones as the desk. Codes: 0, 1 to 6, 9, in the order length under 8, mark, version, counts, 9, length, turnouts,
- * routes. Back come the code and the index, as by desk_sheet; with 9 the index is 0. Whatever does not get 9 gets the
- * answer that desk_sheet gives; so what panel_sheet accepts, desk_sheet accepts too.
+ * Reads a sheet of either version for a cabin panel, which takes at most 16 turnouts and 8 routes (so at most 320
+ * bytes), and as many zones as the desk. Codes: 0, 1 to 6, 9, in the order length under 8, mark, version, counts, 9,
+ * length, turnouts, routes. Back come the code and the index, as by desk_sheet; with 9 the index is 0. Whatever does
+ * not get 9 gets the answer that desk_sheet gives; so what panel_sheet accepts, desk_sheet accepts too.
  */
 uint32_t panel_sheet(const uint8_t *sheet, size_t sheet_len);
 

@@ -60,6 +60,8 @@ static void check_copy(const uint8_t *bad)
     CHECK(desk_copy_sheet(sheet, sizeof sheet, copy, sizeof sheet - 1), DESK_E_SHEET_BUFFER);
     CHECK(copy[0], 255);
     CHECK(desk_copy_sheet(sheet, sizeof sheet, copy, sizeof copy), DESK_E_ACCEPTED);
+    CHECK(copy[4], 2); /* the low byte of the version: a copy is of version 2 */
+    copy[4] = sheet[4];
     CHECK(memcmp(copy, sheet, sizeof sheet), 0);
     CHECK(copy[sizeof sheet], 255);
 }
@@ -168,11 +170,11 @@ static void check_unit(void)
 
 /*
  * Writes a clearance of turnout 0 for train 512: declaration 1 (all efficient), normal position, no clamp, by voice;
- * ends is 1 if it covers both ends of a crossover.
+ * covers is 1 if it covers the whole group of the turnout.
  */
-static uint8_t write_clearance(uint8_t ends)
+static uint8_t write_clearance(uint8_t covers)
 {
-    return desk_write_record(DESK_KIND_CLEARED, 0, 60, 512, 0, 0, 0, 1, 0, 0, 1, ends, record, sizeof record);
+    return desk_write_record(DESK_KIND_CLEARED, 0, 60, 512, 0, 0, 0, 1, 0, 0, 1, covers, record, sizeof record);
 }
 
 /* The station with turnouts 0 and 1 as a crossover: work is on both ends, and declaration 1 must cover both. */
@@ -196,6 +198,34 @@ static void check_crossover(void)
     CHECK(unit_apply(crossover, sizeof crossover, desk, sizeof desk, record, sizeof record), DESK_E_ACCEPTED);
     check_standing(unit_movement(crossover, sizeof crossover, desk, sizeof desk, 0, 512),
                    unit_work(crossover, sizeof crossover, desk, sizeof desk, 1));
+}
+
+/*
+ * The same station in version 2, its turnouts 0 and 1 being a group: work on one of them alone is refused. A copy of
+ * the sheet of version 1 is that sheet. A group of one is wrong, at the turnout that carries its number.
+ */
+static void check_group(void)
+{
+    uint8_t first[sizeof sheet], second[sizeof sheet], copy[sizeof sheet];
+    memcpy(first, sheet, sizeof sheet);
+    first[9] = 1; /* turnout 0's partner */
+    first[12] = 0; /* turnout 1's partner */
+    memcpy(second, sheet, sizeof sheet);
+    second[4] = 2; /* the version's low byte */
+    second[9] = 0; /* turnouts 0 and 1 carry number 0 */
+    second[12] = 0;
+    CHECK(desk_sheet(second, sizeof second), DESK_E_ACCEPTED);
+    CHECK(desk_copy_sheet(first, sizeof first, copy, sizeof copy), DESK_E_ACCEPTED);
+    CHECK(memcmp(copy, second, sizeof second), 0);
+    CHECK(unit_fresh(desk, sizeof desk), DESK_E_ACCEPTED);
+    write_message(0, sizeof record);
+    record[17] = 1; /* the last byte of a: turnout 0 */
+    CHECK(unit_apply(second, sizeof second, desk, sizeof desk, record, sizeof record), DESK_E_PLACE);
+    record[17] = 3; /* turnouts 0 and 1 */
+    CHECK(unit_apply(second, sizeof second, desk, sizeof desk, record, sizeof record), DESK_E_ACCEPTED);
+    second[9] = 31; /* now each of them carries a number alone */
+    CHECK(desk_code(desk_sheet(second, sizeof second)), DESK_E_SHEET_TURNOUT);
+    CHECK(desk_sheet_index(desk_sheet(second, sizeof second)), 0);
 }
 
 /* Writes the use of a release key on turnout 1 for train 512. */
@@ -306,6 +336,7 @@ int main(void)
     check_questions();
     check_unit();
     check_crossover();
+    check_group();
     check_key();
     check_verdict();
     check_panel();

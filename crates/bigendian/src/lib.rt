@@ -1,6 +1,7 @@
 // Big-endian numbers of 16, 32 and 64 bits at any place of a buffer: SET-3 (docs/RULES.md). Every function is total: a
 // byte past the end reads as 0 and is not stored. The rules are in specs/BigEndian.antt, the laws over the width in
 // proofs/.
+#![tactic(auto)]
 ghost use Rattle.std.specs.Prelude.{◌≡◌};
 ghost use Rattle.bigendian.specs.BigEndian.{byte_at, with_byte, number_at, stored_at};
 

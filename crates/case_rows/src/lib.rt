@@ -1,6 +1,7 @@
 // The rows of a test program's input: the name that a row starts with, and its numbers, with a space before each.
 // They are read from a place on; a place past the end reads as the end of a line. The last numbers of a row may be
 // damage: pairs of a place and the byte that is put there. The rules are in specs/Rows.antt.
+#![tactic(auto)]
 ghost use Rattle.std.specs.Prelude.{◌≡◌};
 ghost use Rattle.case_rows.specs.Rows.{byte_at, after, after_letter, after_name, name_at, with_digit, number_at};
 ghost use Rattle.case_rows.specs.Rows.{towards_end, after_line, with_byte, with_pair, with_pairs};

@@ -2,6 +2,7 @@
 // to ASK-4). The rules are in specs/: Desk.antt (hearing) and Questions.antt; the kinds are in the crate `rules`. Every
 // function takes any station and any desk value. specs/Separate.antt is the law that a message touches its own zone
 // alone (APART-1, APART-2).
+#![tactic(auto)]
 ghost use Rattle.std.specs.Prelude.{◌≡◌, ◌<◌};
 ghost use Rattle.desk.specs.Desk.{
   fresh_desk,

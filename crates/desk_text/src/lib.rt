@@ -1,6 +1,7 @@
 // What the desk program prints of a sheet and a journal (PROGRAM-1 and PROGRAM-2 of docs/RULES.md). The text is in
 // specs/Printed.antt; proofs/Printed.antt has that there is always room for the answers, and that a buffer of ROOM
 // bytes holds the whole text.
+#![tactic(auto)]
 ghost use Rattle.std.specs.Prelude.{◌≡◌};
 ghost use Rattle.report.specs.Text.{put_all};
 ghost use Rattle.desk_text.specs.Printed.{printed};

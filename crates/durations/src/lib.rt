@@ -1,5 +1,6 @@
 // How long a work took, in minutes: MINUTES-1 and VALUE-5 (docs/RULES.md). The rule is in specs/Minutes.antt, what is
 // asked of it in specs/Laws.antt.
+#![tactic(auto)]
 ghost use Rattle.std.specs.Prelude.{◌≡◌};
 ghost use Rattle.durations.specs.Minutes.{goes_up, nearest_minute, minutes_between};
 

@@ -1,6 +1,7 @@
 // Reading a file of the working folder into a buffer. A file that cannot be opened, or of which any read fails, counts
 // as empty (PROGRAM-2 of docs/RULES.md); a folder opens and then fails to read. `io::read_full` takes a failed read for
 // the end of the file, so it is not used here.
+#![tactic(auto)]
 ghost use Rattle.io.specs.Counts.{IsPrefixLen};
 
 // Reads an open file until it ends or the buffer is full, and says how many bytes of the buffer are the file's; 0 if

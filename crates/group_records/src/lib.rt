@@ -1,6 +1,7 @@
 // Turnout records of a sheet of version 2 (SHEET-2, SHEET-3 and SHEET-11 of docs/RULES.md): the first bad one. The
 // rules are in specs/GroupRecords.antt; specs/FirstCarrier.antt says where a wrong group is reported,
 // specs/Guaranteed.antt what a good record guarantees.
+#![tactic(auto)]
 ghost use Rattle.std.specs.Prelude.{◌≡◌};
 ghost use Rattle.station.specs.Station.{turnouts_alone};
 ghost use Rattle.group_records.specs.GroupRecords.{

@@ -1,6 +1,7 @@
 // The groups of a station (SHEET-3, VALUE-1 and VALUE-2 of docs/RULES.md): what is tied to a turnout, who is of a
 // group, which sets split one. The rules are in specs/Groups.antt. Every function takes any station value, also one
 // that no sheet gave.
+#![tactic(auto)]
 ghost use Rattle.std.specs.Prelude.{◌≡◌};
 ghost use Rattle.groups.specs.Groups.{tied, grouped, whole, splits};
 

@@ -1,6 +1,7 @@
 // Messages of the works desk and their 32-byte records (RECORD-1 to RECORD-6 of docs/RULES.md): the field rules,
 // reading and writing. The rules are in specs/: Fields.antt has the table's column of fields, Record.antt the layout
 // and both answers.
+#![tactic(auto)]
 ghost use Rattle.std.specs.Prelude.{◌≡◌};
 ghost use Rattle.message.specs.Fields.{field_number};
 ghost use Rattle.message.specs.Record.{reading_of, read_record, written};

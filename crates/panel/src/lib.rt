@@ -1,5 +1,6 @@
 // The cabin panel's reader of station sheets (PANEL-1 to PANEL-3 of docs/RULES.md): the desk's, with limits of its own.
 // The rules are in specs/Panel.antt; specs/Laws.antt has how the two readers' answers go together.
+#![tactic(auto)]
 ghost use Rattle.std.specs.Prelude.{◌≡◌};
 ghost use Rattle.panel.specs.Panel.{panel_number, read_panel_sheet};
 

@@ -1,6 +1,7 @@
 // Printing the text of a sheet and a journal that stand in files: what the desk program does (PROGRAM-1 and PROGRAM-2
 // of docs/RULES.md), for any names. The text is `desk_text`'s; what is proved here is that the program's buffers hold
 // all of it, and that printing is safe and ends.
+#![tactic(auto)]
 ghost use Rattle.std.specs.Prelude.{◌≤◌, length};
 ghost use Rattle.io.specs.Counts.{IsPrefixLen};
 ghost use Rattle.printing.specs.Files.{TextOfFiles};

@@ -10,6 +10,7 @@
 // what reading the first N bytes of its record (with one byte more for 33) gives, WRITE what writing the message into
 // N bytes gives, and KEPT is 1 if the buffer is then as it was. Last, of how many accepted records the message that
 // was read was written as the same 32 bytes, and how many cases were accepted.
+#![tactic(auto)]
 mod bytes;
 mod cases;
 mod good;

@@ -2,6 +2,7 @@
 // the code, then the minutes in four bytes (REPLAY-1). The text is that of PROGRAM-1 and PROGRAM-2 (docs/RULES.md).
 // Every function takes buffers of any length: what does not fit is not stored. The rules are in specs/: Answers.antt
 // has the bytes, Text.antt the text.
+#![tactic(auto)]
 ghost use Rattle.std.specs.Prelude.{◌≡◌};
 ghost use Rattle.report.specs.Answers.{with_answer};
 ghost use Rattle.report.specs.Text.{decimal, line_of, text_of, put_byte, put_all};

@@ -1,6 +1,7 @@
 // The tests of the kinds, KIND-1 to KIND-13 (docs/RULES.md), that look at more than one thing. The rules are in specs/:
 // the table of kinds in Kinds.antt, its tests in Tests.antt, what makes a clearance fit in Clearance.antt, where a key
 // may be used in Keys.antt.
+#![tactic(auto)]
 ghost use Rattle.std.specs.Prelude.{◌≡◌};
 ghost use Rattle.rules.specs.Tests.{
   no_work_under,

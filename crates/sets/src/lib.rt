@@ -1,5 +1,7 @@
 // Turnout sets: a set is a 64-bit word, bit n is turnout n (SET-2 of docs/RULES.md). Every function is total: it takes
 // any number and any word. The rules are in specs/Sets.antt, the laws by membership in proofs/Membership.antt.
+#![tactic(auto)]
+
 ghost use Rattle.std.specs.Prelude.{◌≡◌};
 ghost use Rattle.sets.specs.Sets.{has, single, is_empty, overlaps, within, without, union, count, lowest};
 

@@ -1,6 +1,7 @@
 // The reader of station sheets of both versions (SHEET-1 to SHEET-14 of docs/RULES.md). The rules of routes and of
 // reading are in specs/Sheet.antt, those of turnout records in the crates `group_records` and `partner_records`, those
 // of the bytes in `layout`. specs/Accepted.antt has what an accepted sheet guarantees of its station.
+#![tactic(auto)]
 ghost use Rattle.std.specs.Prelude.{◌≡◌};
 ghost use Rattle.sheet.specs.Sheet.{read_sheet};
 

@@ -1,6 +1,7 @@
 // A station as the bytes of a sheet, stored into a buffer (WRITE-1 of docs/RULES.md). The bytes are in
 // specs/SheetBytes.antt; they are the inverse of the station that the crate `layout` finds in bytes
 // (proofs/Inverse.antt). Storing takes any station and any buffer; the crate `sheet_writer` refuses.
+#![tactic(auto)]
 ghost use Rattle.std.specs.Prelude.{◌≡◌, ◌<◌, ◌+◌, ◌*◌, min};
 ghost use Rattle.std.proofs.lemmas.List.Edits.{sets};
 ghost use Rattle.sheet_bytes.specs.SheetBytes.{

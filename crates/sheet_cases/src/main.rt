@@ -43,6 +43,7 @@
 // 21, and its damage. Output: the code and the index; how many bytes at the start of the buffer are then those of the
 // sheet with its damage, up to the first that differs; how many of the rest are still 170; and, if it was copied,
 // how many of the 515 numbers differ between the station of the sheet and that of the copy.
+#![tactic(auto)]
 mod bases;
 mod comparing;
 mod grouped;

@@ -1,6 +1,7 @@
 // The writer of station sheets (WRITE-1 to WRITE-5 of docs/RULES.md). The rules are in specs/Writer.antt, the bytes of
 // a station in the crate `sheet_bytes`. specs/Laws.antt says what follows: what is written reads as the station, and a
 // sheet that is read and written is the same bytes.
+#![tactic(auto)]
 ghost use Rattle.std.specs.Prelude.{◌≡◌};
 ghost use Rattle.sheet_writer.specs.Writer.{described, written_sheet, copied_sheet};
 

@@ -1,6 +1,7 @@
 // Asks `signals::judge` one question for each sentence of SIGNAL-1 to SIGNAL-10 (docs/RULES.md) and for each flag that
 // matters there, and prints a line for each: line, signal, flags, code, verdict. The expected lines are in `stdout`,
 // written from these rules by hand.
+#![tactic(auto)]
 
 // The questions: line, signal, flags. Flags: 1 held, 2 day, 4 SSC fitted, 8 ensured, 16 lights touched, 32 cannot
 // light wrongly.

@@ -1,6 +1,7 @@
 // Works on signals (SIGNAL-1 to SIGNAL-10 of docs/RULES.md; Art. 3.5, 3.6, 3.13): which works are allowed on a signal,
 // from the kind of line, the signal and what is known of it. The verdicts are a constant table; the rule that it holds
 // is in specs/Signals.antt.
+#![tactic(auto)]
 ghost use Rattle.std.specs.Prelude.{◌≡◌, ◌≤◌};
 ghost use Rattle.signals.specs.Answer.{answer_of, judged, number_of};
 

@@ -1,6 +1,7 @@
 // Stations: what a station says of its turnouts, routes and zones (SHEET-2 to SHEET-9, VALUE-1 and VALUE-3 of
 // docs/RULES.md). The rules are in specs/Station.antt. Every function takes any station value, also one that no sheet
 // gave. The crate `groups` says what is tied together, the crate `sheet` reads a station.
+#![tactic(auto)]
 ghost use Rattle.std.specs.Prelude.{◌≡◌, ◌<◌};
 ghost use Rattle.station.specs.Station.{
   empty_route,

@@ -1,6 +1,7 @@
 // Tries what the desk program prints (PROGRAM-1, PROGRAM-2), on files with other names: a refused sheet, a refused
 // journal, both, files that are not there, an empty journal, a folder in place of a file. The files are in data/; the
 // expected lines are in stdout, written from the rules (docs/RULES.md) by hand.
+#![tactic(auto)]
 use libc::STDOUT_FILENO;
 
 // Writes the name of a case and prints the text of its two files.

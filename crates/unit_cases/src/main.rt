@@ -16,6 +16,7 @@
 // 5: zone and train of the movement question. Written: the code, the regime, the lowest turnout, the count.
 // 6: the turnout of the work question. Written: the code, and 1 for yes.
 // 7, 8 and 9 are 2, 5 and 6 on the second station, 10, 11 and 12 on the third.
+#![tactic(auto)]
 mod hearing;
 mod parts;
 mod questions;

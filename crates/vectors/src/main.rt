@@ -5,6 +5,7 @@
 // A case: its kind (1 byte), two numbers x and y (4 bytes each), the lengths of two parts a and b (2 bytes each), all
 // big-endian; then the parts. A line: the case's number from 1, and the numbers that its kind prints (stations.rt,
 // messages.rt and journals.rt have the kinds), a space between any two.
+#![tactic(auto)]
 mod journals;
 mod messages;
 mod numbers;

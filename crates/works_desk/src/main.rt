@@ -1,6 +1,7 @@
 // The desk program (PROGRAM-1 and PROGRAM-2 of docs/RULES.md): reads the files `sheet` and `journal` of its working
 // folder, hears every record of the journal, and prints a line for each: its number from 1, the code, the minutes. A
 // refused sheet, else a refused journal, prints its number alone. The text is `desk_text`'s.
+#![tactic(auto)]
 fn main() {
     printing::print_files(b"sheet", b"journal");
 }

@@ -1,6 +1,7 @@
 // The state of one zone of the works desk, ZONE-1 and ZONE-2 (docs/RULES.md): its work, its movement, its recorder, its
 // last accepted time; what they say, and what messages do to them. The rules are in specs/: Work.antt, Movement.antt,
 // Trains.antt (movements by train) and Zone.antt. Every function takes any value, also one that no desk gave.
+#![tactic(auto)]
 ghost use Rattle.std.specs.Prelude.{◌≡◌};
 ghost use Rattle.zone.specs.Zone.{fresh_zone, work_of, with_work, at_time, with_recorder, refused_in, settled};
 

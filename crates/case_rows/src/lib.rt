@@ -7,7 +7,7 @@ ghost use Rattle.case_rows.specs.Rows.{byte_at, after, after_letter, after_name,
 ghost use Rattle.case_rows.specs.Rows.{towards_end, after_line, with_byte, with_pair, with_pairs};
 
 // A number, and the place after it.
-#[derive(Drop)]
+#[derive(Clone, Copy)]
 pub struct Parsed {
     pub value: u16,
     pub next: usize,

@@ -28,13 +28,13 @@ pub const NO_SUCH_ZONE: u8 = 12;
 pub const NO_SUCH_TURNOUT: u8 = 13;
 
 // A desk: the state of its zones.
-#[derive(Drop)]
+#[derive(Clone, Copy)]
 pub struct Desk {
     pub zones: [Zone; 8],
 }
 
 // The answer to a message: its code, the minutes, and the desk after it.
-#[derive(Drop)]
+#[derive(Clone, Copy)]
 pub struct Applied {
     pub code: u8,
     pub minutes: u32,
@@ -43,7 +43,7 @@ pub struct Applied {
 
 // The answer to the movement question: the regime, the lowest-numbered turnout that has neither a clearance nor a key
 // (255 if none), and how many have neither.
-#[derive(Drop)]
+#[derive(Clone, Copy)]
 pub struct MovementAnswer {
     pub code: u8,
     pub regime: Regime,
@@ -52,7 +52,7 @@ pub struct MovementAnswer {
 }
 
 // The answer to the work question.
-#[derive(Drop)]
+#[derive(Clone, Copy)]
 pub struct WorkAnswer {
     pub code: u8,
     pub yes: bool,

@@ -47,7 +47,7 @@ pub const BAD_FIELD: u8 = 13;
 pub const RECORD: usize = 32;
 
 // A message: kind, zone, time in seconds, form number or train, two turnout sets, six details (RECORD-1).
-#[derive(Drop)]
+#[derive(Clone, Copy)]
 pub struct Message {
     pub a: u64,
     pub b: u64,
@@ -64,7 +64,7 @@ pub struct Message {
 }
 
 // What reading a record gives: its message, or the number that refuses it.
-#[derive(Drop)]
+#[derive(Clone, Copy)]
 pub enum Reading {
     Accepted(Message),
     Refused(u8),

@@ -1,11 +1,11 @@
 // The cases: which field of a good message is changed, and to what. What each must give stands in stdout alone.
 
 // A field and the value that is put into it.
-#[derive(Drop)]
+#[derive(Clone, Copy)]
 pub struct Case(pub u8, pub u64);
 
 // A base kind, a field and the value that is put into it.
-#[derive(Drop)]
+#[derive(Clone, Copy)]
 struct OwnCase(u8, u8, u64);
 
 // The fields of a message; NONE changes nothing.

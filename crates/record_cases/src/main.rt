@@ -18,7 +18,7 @@ mod good;
 use cases::Case;
 
 // How many cases were accepted, and how many of those were written again as the same bytes.
-#[derive(Drop)]
+#[derive(Clone, Copy)]
 struct Tally {
     accepted: u64,
     same: u64,

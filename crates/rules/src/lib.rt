@@ -35,14 +35,14 @@ use zone::works::{manner_of, under_form};
 use zone::{Movement, Work, Zone, work_of};
 
 // The routes that bear on a message: the one that it asks for, and that of the movement under its id.
-#[derive(Drop)]
+#[derive(Clone, Copy)]
 pub struct Concerned {
     pub asked: Route,
     pub its: Route,
 }
 
 // Their numbers; 255 for one that is not there.
-#[derive(Drop)]
+#[derive(Clone, Copy)]
 pub struct RouteNumbers {
     pub asked: u8,
     pub its: u8,

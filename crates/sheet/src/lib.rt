@@ -14,7 +14,7 @@ pub const BAD_ROUTE: u8 = 6;
 
 // What reading a sheet gives: 0 and the station; or the number that refuses it, the index of the record for 5 and 6
 // (else 0), and the station that is 0 throughout (SHEET-11, SHEET-12).
-#[derive(Drop)]
+#[derive(Clone, Copy)]
 pub struct Sheet {
     pub station: station::Station,
     pub code: u8,
@@ -23,7 +23,7 @@ pub struct Sheet {
 
 // What judging a station finds: 0, or the number and the index of its first bad record. Smaller than a Sheet, which
 // holds the station.
-#[derive(Drop)]
+#[derive(Clone, Copy)]
 pub struct Finding {
     pub code: u8,
     pub index: u8,

@@ -8,7 +8,7 @@ use station::{Route, Station, Turnout};
 pub const BEFORE: u8 = 170;
 
 // A station, and the place in the input after its changes so far.
-#[derive(Drop)]
+#[derive(Clone, Copy)]
 struct Changed {
     station: Station,
     next: usize,

@@ -13,7 +13,7 @@ use table::VERDICTS;
 pub const OUT_OF_RANGE: u8 = 33;
 
 // The verdicts 1 to 6 (SIGNAL-3).
-#[derive(Drop)]
+#[derive(Clone, Copy)]
 pub enum Verdict {
     AtDanger,
     Dark,
@@ -24,7 +24,7 @@ pub enum Verdict {
 }
 
 // What the call answers: a verdict, or that line, signal or flags are out of range.
-#[derive(Drop)]
+#[derive(Clone, Copy)]
 pub enum Ruling {
     Given(Verdict),
     OutOfRange,

@@ -2,6 +2,7 @@
 // docs/RULES.md). The rules are in specs/Station.antt. Every function takes any station value, also one that no sheet
 // gave. The crate `groups` says what is tied together, the crate `sheet` reads a station.
 #![tactic(auto)]
+
 ghost use Rattle.std.specs.Prelude.{◌≡◌, ◌<◌};
 ghost use Rattle.station.specs.Station.{
   empty_route,
@@ -28,7 +29,7 @@ pub const ROUTES: usize = 64;
 pub const ZONES: usize = 8;
 
 // A turnout: its zone, the number of its group (255 for alone), its drive (0 electric, 1 hand with key lock).
-#[derive(Drop)]
+#[derive(Clone, Copy)]
 pub struct Turnout {
     pub zone: u8,
     pub group: u8,
@@ -36,7 +37,7 @@ pub struct Turnout {
 }
 
 // A route: its zone, the sets that it runs over, of its flank and of its exit zone, and those that lie reverse.
-#[derive(Drop)]
+#[derive(Clone, Copy)]
 pub struct Route {
     pub over: u64,
     pub flank: u64,
@@ -46,7 +47,7 @@ pub struct Route {
 }
 
 // A station: the counts P, R and Z, and the records; those past P and R are 0.
-#[derive(Drop)]
+#[derive(Clone, Copy)]
 pub struct Station {
     pub route: [Route; 64],
     pub turnout: [Turnout; 64],
@@ -125,6 +126,7 @@ pub fn first_code(test: bool, code: u8, rest: u8) -> u8
 }
 
 // A route; one not below R has every number 0 and names nothing (VALUE-3).
+#[tactic(auto, unfolding(crate::specs::Station::the_route))]
 pub fn route_of(st: Station, n: usize) -> Route
     ensures { result ≡ the_route st n }
 {

@@ -14,7 +14,7 @@ mod stations;
 use libc::STDOUT_FILENO;
 
 // What stands before the parts of a case: its kind, its numbers, and the lengths of the parts.
-#[derive(Drop)]
+#[derive(Clone, Copy)]
 struct Case {
     kind: u8,
     x: u32,

@@ -16,7 +16,7 @@ use message::Reading;
 pub const NOT_A_DESK: u8 = 61;
 
 // The answer to a record.
-#[derive(Drop)]
+#[derive(Clone, Copy)]
 pub struct Reply {
     pub code: u8,
     pub minutes: u32,

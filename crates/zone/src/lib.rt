@@ -11,7 +11,7 @@ pub mod trains;
 pub mod works;
 
 // What was asked for: the form number, how it was recorded (1 form M.45, 2 recorded verbal), the turnouts.
-#[derive(Drop)]
+#[derive(Clone, Copy)]
 pub struct Request {
     pub set: u64,
     pub form: u32,
@@ -19,7 +19,7 @@ pub struct Request {
 }
 
 // An agreed request: also when it was agreed to, and the turnouts that are open to work.
-#[derive(Drop)]
+#[derive(Clone, Copy)]
 pub struct Agreement {
     pub set: u64,
     pub opened: u64,
@@ -29,7 +29,7 @@ pub struct Agreement {
 }
 
 // The work of a zone (ZONE-1, FORM-6).
-#[derive(Drop)]
+#[derive(Clone, Copy)]
 pub enum Work {
     NoWork,
     Asked(Request),
@@ -38,7 +38,7 @@ pub enum Work {
 
 // A movement that stands: its train, its route, the order given (0 none, 1 clear, 2 danger), the turnouts cleared for
 // it, those of them whose declaration means all efficient, and the turnouts on which a release key was used for it.
-#[derive(Drop)]
+#[derive(Clone, Copy)]
 pub struct Passage {
     pub cleared: u64,
     pub efficient: u64,
@@ -49,14 +49,14 @@ pub struct Passage {
 }
 
 // The movement of a zone (ZONE-1, FORM-6).
-#[derive(Drop)]
+#[derive(Clone, Copy)]
 pub enum Movement {
     NoMovement,
     Standing(Passage),
 }
 
 // The regimes: REGIME-1 to REGIME-3.
-#[derive(Drop)]
+#[derive(Clone, Copy)]
 pub enum Regime {
     Held,
     Clear,
@@ -64,7 +64,7 @@ pub enum Regime {
 }
 
 // A zone; the recorder is true while it works (ZONE-1, FORM-6).
-#[derive(Drop)]
+#[derive(Clone, Copy)]
 pub struct Zone {
     pub work: Work,
     pub movement: Movement,
@@ -73,7 +73,7 @@ pub struct Zone {
 }
 
 // The answer to a message: its code, the minutes, and the zone after it.
-#[derive(Drop)]
+#[derive(Clone, Copy)]
 pub struct Answer {
     pub zone: Zone,
     pub minutes: u32,

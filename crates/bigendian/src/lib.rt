@@ -2,6 +2,7 @@
 // byte past the end reads as 0 and is not stored. The rules are in specs/BigEndian.antt, the laws over the width in
 // proofs/.
 #![tactic(auto)]
+
 ghost use Rattle.std.specs.Prelude.{◌≡◌};
 ghost use Rattle.bigendian.specs.BigEndian.{byte_at, with_byte, number_at, stored_at};
 

@@ -1,21 +1,24 @@
 // Reading a file of the working folder into a buffer. A file that cannot be opened, or of which any read fails, counts
-// as empty (PROGRAM-2 of docs/RULES.md); a folder opens and then fails to read. `io::read_full` takes a failed read for
-// the end of the file, so it is not used here.
+// as empty (PROGRAM-2 of docs/RULES.md); a folder opens and then fails to read. A name that is not UTF-8 is one that
+// cannot be opened.
 #![tactic(auto)]
-ghost use Rattle.io.specs.Counts.{IsPrefixLen};
 
-// Reads an open file until it ends or the buffer is full, and says how many bytes of the buffer are the file's; 0 if
-// a read fails.
-fn read_all(fd: i32, buf: &mut [u8]) -> usize
+ghost use Rattle.files.specs.Counts.{IsPrefixLen};
+
+use std::fs;
+use std::io::Read;
+use std::rt::Files;
+
+// Reads until the reader ends or the buffer is full, and says how many bytes of the buffer are the reader's; 0 if a
+// read fails.
+pub fn read_all<R: Read>(reader: &mut R, buf: &mut [u8]) -> usize
     ensures { IsPrefixLen result buf.new }
 {
     let mut done: usize = 0;
     while done < buf.len() {
-        let got = libc::read(fd, &mut buf[done..]);
-        if got < 0 {
+        let Ok(n) = reader.read(&mut buf[done..]) else {
             return 0;
-        }
-        let n = io::count(got, &buf[done..]);
+        };
         if n == 0 {
             return done;
         }
@@ -25,14 +28,14 @@ fn read_all(fd: i32, buf: &mut [u8]) -> usize
 }
 
 // Reads the file of that name, as far as the buffer holds it, and says how many bytes of the buffer are the file's.
-pub fn read_file(name: &[u8], buf: &mut [u8]) -> usize
+pub fn read_file<R: Files>(rt: &R, name: &[u8], buf: &mut [u8]) -> usize
     ensures { IsPrefixLen result buf.new }
 {
-    let fd = os::open_read(name);
-    if fd < 0 {
+    let Ok(path) = str::from_utf8(name) else {
         return 0;
-    }
-    let n = read_all(fd, buf);
-    libc::close(fd);
-    n
+    };
+    let Ok(mut file) = fs::open(rt, path) else {
+        return 0;
+    };
+    read_all(&mut file, buf)
 }

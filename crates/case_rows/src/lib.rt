@@ -2,6 +2,7 @@
 // They are read from a place on; a place past the end reads as the end of a line. The last numbers of a row may be
 // damage: pairs of a place and the byte that is put there. The rules are in specs/Rows.antt.
 #![tactic(auto)]
+
 ghost use Rattle.std.specs.Prelude.{◌≡◌};
 ghost use Rattle.case_rows.specs.Rows.{byte_at, after, after_letter, after_name, name_at, with_digit, number_at};
 ghost use Rattle.case_rows.specs.Rows.{towards_end, after_line, with_byte, with_pair, with_pairs};
@@ -14,6 +15,7 @@ pub struct Parsed {
 }
 
 // The byte at a place.
+#[tactic(auto, unfolding(crate::specs::Rows::byte_at))]
 pub fn byte_at(text: &[u8], at: usize) -> u8
     ensures { result ≡ byte_at text.now at }
 {
@@ -31,6 +33,7 @@ pub fn after(at: usize) -> usize
 }
 
 // The next place, if the byte at this one is part of a name; else this place.
+#[tactic(auto, unfolding(crate::specs::Rows::after_letter))]
 fn after_letter(text: &[u8], at: usize) -> usize
     ensures { result ≡ after_letter text.now at }
 {
@@ -65,6 +68,7 @@ pub fn name<'a>(text: &'a [u8], at: usize) -> &'a [u8]
 }
 
 // The number with the digit after it, if there is one.
+#[tactic(auto, unfolding(crate::specs::Rows::with_digit))]
 fn with_digit(text: &[u8], n: Parsed) -> Parsed
     ensures { result ≡ with_digit text.now n }
 {
@@ -98,6 +102,7 @@ pub fn number_at(text: &[u8], at: usize) -> Parsed
 }
 
 // The same place if a line ends there, else the next one.
+#[tactic(auto, unfolding(crate::specs::Rows::towards_end))]
 fn towards_end(text: &[u8], at: usize) -> usize
     ensures { result ≡ towards_end text.now at }
 {
@@ -130,6 +135,7 @@ pub fn put(s: &mut [u8], at: usize, value: u8)
 }
 
 // Stores the damage at a place, if there is more; the place after it.
+#[tactic(auto, unfolding(crate::specs::Rows::with_pair))]
 fn put_pair(s: &mut [u8], input: &[u8], at: usize) -> usize
     ensures { record { place = result; bytes = s.new }
         ≡ with_pair input.now (record { place = at; bytes = s.old }) }

@@ -2,6 +2,7 @@
 // reading and writing. The rules are in specs/: Fields.antt has the table's column of fields, Record.antt the layout
 // and both answers.
 #![tactic(auto)]
+
 ghost use Rattle.std.specs.Prelude.{◌≡◌};
 ghost use Rattle.message.specs.Fields.{field_number};
 ghost use Rattle.message.specs.Record.{reading_of, read_record, written};

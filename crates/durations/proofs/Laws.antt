@@ -5,7 +5,7 @@ use Prim.Native.Nat.{ℕ, ◌+◌, ◌-◌, ◌*◌, ◌/◌, ◌%◌, ◌≤◌
 use native.Mathlib.Nat.{div-add-mod}
 use native.Mathlib.Omega.{arith}
 use borrow.Author.Tests.{leb-true, leb-false, eqb-true, eqb-false, lt-ltb, le-ltb}
-use Rattle.durations.specs.Minutes.{over_half, exact_half, odd_is, goes_up, nearest_minute}
+use Rattle.durations.specs.Minutes.{over_half, exact_half, is_odd, goes_up, nearest_minute}
 use Rattle.durations.specs.Minutes.{minutes_between}
 use Rattle.durations.specs.Laws.{Nearest, MinutesLaws}
 
@@ -34,17 +34,17 @@ rounded :
     (seconds m over : ℕ) → seconds ≡ 60 * m + over → over < 60
     → Nearest seconds (cond (goes_up m over) (m + 1) m)
 rounded seconds m over sum fits =
-    go (over_half over) refl (exact_half over) refl (odd_is m) refl
+    go (over_half over) refl (exact_half over) refl (is_odd m) refl
   where
     go : (more : Bool) → over_half over ≡ more → (half : Bool) → exact_half over ≡ half
-        → (odd : Bool) → odd_is m ≡ odd
+        → (odd : Bool) → is_odd m ≡ odd
         → Nearest seconds (cond (more || (half && odd)) (m + 1) m)
     go true more half _ odd _ =
         let is-more = leb-true _ over more in
         closer seconds (m + 1) (omega arith) (omega arith)
     go false more true half true odd =
         let is-half = eqb-true over _ half in
-        let odd_is = eqb-true (m % 2) _ odd in
+        let odd-is = eqb-true (m % 2) _ odd in
         even seconds (m + 1) (omega arith) (omega arith) (omega arith)
     go false more true half false odd =
         let is-half = eqb-true over _ half in

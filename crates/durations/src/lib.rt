@@ -1,6 +1,7 @@
 // How long a work took, in minutes: MINUTES-1 and VALUE-5 (docs/RULES.md). The rule is in specs/Minutes.antt, what is
 // asked of it in specs/Laws.antt.
 #![tactic(auto)]
+
 ghost use Rattle.std.specs.Prelude.{◌≡◌};
 ghost use Rattle.durations.specs.Minutes.{goes_up, nearest_minute, minutes_between};
 
@@ -24,6 +25,7 @@ fn nearest_minute(seconds: u32) -> u32
 }
 
 // Minutes from an agreement to a time, to the nearest; 0 for an agreement that is later (MINUTES-1, VALUE-5).
+#[tactic(auto, unfolding(crate::specs::Minutes::minutes_between))]
 pub fn minutes_between(since: u32, now: u32) -> u32
     ensures { result ≡ minutes_between since «now» }
 {

@@ -2,6 +2,7 @@
 // of a number is stands in specs/Bytes.antt, with two values packed; proofs/Bytes.antt has that a value packed into a
 // byte comes back.
 #![tactic(auto)]
+
 ghost use Rattle.std.specs.Prelude.{◌≡◌};
 ghost use Rattle.packing.specs.Bytes.{two_packed};
 

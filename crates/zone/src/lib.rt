@@ -2,6 +2,7 @@
 // last accepted time; what they say, and what messages do to them. The rules are in specs/: Work.antt, Movement.antt,
 // Trains.antt (movements by train) and Zone.antt. Every function takes any value, also one that no desk gave.
 #![tactic(auto)]
+
 ghost use Rattle.std.specs.Prelude.{◌≡◌};
 ghost use Rattle.zone.specs.Zone.{fresh_zone, work_of, with_work, at_time, with_recorder, refused_in, settled};
 

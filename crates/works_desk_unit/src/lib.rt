@@ -1,9 +1,9 @@
 // The unit, UNIT-1 to UNIT-6 (docs/RULES.md): a desk kept in 520 bytes by the caller, for firmware in C or Rust that
-// hears one record at a time. A byte slice goes as a pointer and a length. The rules are in specs/Unit.antt, the desk's
-// bytes in the crate `desk_bytes`. Every function takes any bytes and any numbers. proofs/OneByOne.antt has that
-// records heard one by one get what replaying them gives, proofs/Demand3.antt that demand 3 holds of them,
-// proofs/Calls.antt that the numbers which the calls return show it, proofs/Separation.antt that a zone's answers go by
-// its own messages alone.
+// hears one record at a time. The crate `works_desk_unit_c` hands its four public calls to C. The rules are in
+// specs/Unit.antt, the desk's bytes in the crate `desk_bytes`. Every function takes any bytes and any numbers.
+// proofs/OneByOne.antt has that records heard one by one get what replaying them gives, proofs/Demand3.antt that demand 3
+// holds of them, proofs/Calls.antt that the numbers which the calls return show it, proofs/Separation.antt that a zone's
+// answers go by its own messages alone.
 #![tactic(auto)]
 ghost use Rattle.std.specs.Prelude.{◌≡◌};
 ghost use Rattle.packed.specs.Packed.{movement_packed, work_packed};
@@ -30,8 +30,7 @@ fn refused(code: u8) -> Reply
 }
 
 // Stores the fresh desk. Refused by 61 for a buffer of another length than a desk's (UNIT-6).
-#[unsafe(no_mangle)]
-pub extern "C" fn unit_fresh(desk: &mut [u8]) -> u8
+pub fn unit_fresh(desk: &mut [u8]) -> u8
     ensures { record { code = result; bytes = desk.new } ≡ unit_fresh desk.old }
 {
     if desk.len() != desk_bytes::LENGTH {
@@ -83,8 +82,7 @@ fn apply(sheet: &[u8], desk: &mut [u8], record: &[u8]) -> Reply
 }
 
 // Hears a record: the code in the lowest byte, the minutes above it (UNIT-3).
-#[unsafe(no_mangle)]
-pub extern "C" fn unit_apply(sheet: &[u8], desk: &mut [u8], record: &[u8]) -> u64
+pub fn unit_apply(sheet: &[u8], desk: &mut [u8], record: &[u8]) -> u64
     ensures { record { answer = result; bytes = desk.new }
         ≡ called (unit_applied sheet.now desk.old «record».now) }
 {
@@ -105,8 +103,7 @@ fn movement(sheet: &[u8], desk: &[u8], zone: u8, train: u32) -> MovementAnswer
 
 // The movement question: the code, the regime, the lowest turnout lacking a clearance, how many lack one, a byte each
 // (UNIT-4).
-#[unsafe(no_mangle)]
-pub extern "C" fn unit_movement(sheet: &[u8], desk: &[u8], zone: u8, train: u32) -> u64
+pub fn unit_movement(sheet: &[u8], desk: &[u8], zone: u8, train: u32) -> u64
     ensures { result ≡ movement_packed (unit_movement sheet.now desk.now zone train) }
 {
     packed::movement_packed(movement(sheet, desk, zone, train))
@@ -127,8 +124,7 @@ fn work(sheet: &[u8], desk: &[u8], turnout: u8) -> WorkAnswer
 }
 
 // The work question: the code, and 256 if the turnout is open to work (UNIT-4).
-#[unsafe(no_mangle)]
-pub extern "C" fn unit_work(sheet: &[u8], desk: &[u8], turnout: u8) -> u32
+pub fn unit_work(sheet: &[u8], desk: &[u8], turnout: u8) -> u32
     ensures { result ≡ work_packed (unit_work sheet.now desk.now turnout) }
 {
     packed::work_packed(work(sheet, desk, turnout))

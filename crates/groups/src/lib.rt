@@ -2,6 +2,7 @@
 // group, which sets split one. The rules are in specs/Groups.antt. Every function takes any station value, also one
 // that no sheet gave.
 #![tactic(auto)]
+
 ghost use Rattle.std.specs.Prelude.{◌≡◌};
 ghost use Rattle.groups.specs.Groups.{tied, grouped, whole, splits};
 

@@ -1,0 +1,32 @@
+-- The count is at most 64 for every station, so it and the counter fit in eight bits.
+use Rattle.std.proofs.Common.{◌≡◌, ℕ, refl, sym, ap, ◌∙◌, add-one, rules, arith}
+use mathlib.Core.Path.{ap₂}
+use mathlib.Core.Bool.{not}
+use Rattle.sets.specs.Sets.{has, overlaps}
+use Rattle.station.specs.Station.{turnout_count}
+use Rattle.groups.proofs.Numbers.{numbers_of, splits-numbers}
+use Rattle.groups.proofs.splits_group.Goals as goal
+
+pub loop-i-init : goal.loop-i-init
+unfolding numbers_of
+loop-i-init c = (omega arith, refl, refl)
+
+pub loop-i-preserved : goal.loop-i-preserved
+unfolding numbers_of
+loop-i-preserved c =
+    let inside = c.contains-inside.ensures in (
+      search rules,
+      rw (c.with_number-taken.ensures, c.loop-i.invariant.1, inside, add-one c.loop-i.i),
+      rw (c.with_number-left.ensures, c.loop-i.invariant.2, inside, add-one c.loop-i.i),
+    )
+
+pub returns : goal.returns
+returns c =
+    let st = c.args.st in
+    let s = c.args.s in
+    let ended : c.loop-i.i ≡ turnout_count st = omega arith in
+    let taken = c.loop-i.invariant.1 ∙ ap (numbers_of st.turnout (has s)) ended in
+    let left = c.loop-i.invariant.2 ∙ ap (numbers_of st.turnout (λ k. not (has s k))) ended in
+    c.overlap.ensures
+    ∙ ap₂ (λ (x y : ℕ). overlaps x y) taken left
+    ∙ sym (splits-numbers st s)

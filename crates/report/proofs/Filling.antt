@@ -17,7 +17,7 @@ put-append :
     put_all s at (xs ++ ys) ≡ put_all (put_all s at xs).bytes (put_all s at xs).place ys
 unfolding put_all
 put-append s at [] ys = refl
-put-append s at (x ∷ xs) ys = put-append _ _ xs ys
+put-append s at (x ∷ xs) ys = put-append (put_byte s at x).bytes (put_byte s at x).place xs ys
 
 -- once xs are put, only ys are left
 pub put-after :
@@ -58,7 +58,8 @@ pub put-within :
     (put_all s at bs).place ≤ length (put_all s at bs).bytes
 unfolding put_all
 put-within s at [] within = within
-put-within s at (b ∷ bs) within = put-within _ _ bs (byte-within s at b within)
+put-within s at (b ∷ bs) within =
+    put-within (put_byte s at b).bytes (put_byte s at b).place bs (byte-within s at b within)
 
 -- a number that k digits hold has no more, however many are asked for
 digits-enough : (k n : ℕ) → n < 10 ^ suc k → digits (suc (suc k)) n ≡ digits (suc k) n

@@ -3,6 +3,7 @@
 // Every function takes buffers of any length: what does not fit is not stored. The rules are in specs/: Answers.antt
 // has the bytes, Text.antt the text.
 #![tactic(auto)]
+
 ghost use Rattle.std.specs.Prelude.{◌≡◌};
 ghost use Rattle.report.specs.Answers.{with_answer};
 ghost use Rattle.report.specs.Text.{decimal, line_of, text_of, put_byte, put_all};
@@ -11,6 +12,7 @@ ghost use Rattle.report.specs.Text.{decimal, line_of, text_of, put_byte, put_all
 pub const ANSWER: usize = 5;
 
 // Stores answer n (REPLAY-1).
+#[tactic(auto, unfolding(crate::specs::Answers::with_answer))]
 pub fn put_answer(s: &mut [u8], n: u32, code: u8, minutes: u32)
     ensures { s.new ≡ with_answer s.old n code minutes }
 {
@@ -20,6 +22,7 @@ pub fn put_answer(s: &mut [u8], n: u32, code: u8, minutes: u32)
 }
 
 // Puts a byte at a place, and says where the next one goes; past the end nothing is stored.
+#[tactic(auto, unfolding(crate::specs::Text::put_byte))]
 pub fn put_byte(out: &mut [u8], at: usize, b: u8) -> usize
     ensures { record { place = result; bytes = out.new } ≡ put_byte out.old at b }
 {

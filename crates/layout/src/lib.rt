@@ -2,6 +2,7 @@
 // number, and the station that stands in them. The rules are in specs/Layout.antt. The crate `sheet` judges the
 // station.
 #![tactic(auto)]
+
 ghost use Rattle.std.specs.Prelude.{◌≡◌, ◌<◌};
 ghost use Rattle.layout.specs.Layout.{
   has_mark,
@@ -112,6 +113,7 @@ pub fn length_code(s: &[u8]) -> u8
 }
 
 // 0 if the header and the length are good, else the first number of 1, 2, 3, 4, 1 that fits (SHEET-11).
+#[tactic(auto, unfolding(crate::specs::Layout::header_number))]
 pub fn header_code(s: &[u8]) -> u8
     ensures { result ≡ header_number s.now }
 {
@@ -173,6 +175,7 @@ fn routes_in(s: &[u8], p: u8, r: u8) -> [Route; 64]
 }
 
 // The station that stands in the bytes.
+#[tactic(auto, unfolding(crate::specs::Layout::station_in))]
 pub fn station_in(s: &[u8]) -> Station
     ensures { result ≡ station_in s.now }
 {

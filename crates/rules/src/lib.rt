@@ -2,6 +2,7 @@
 // the table of kinds in Kinds.antt, its tests in Tests.antt, what makes a clearance fit in Clearance.antt, where a key
 // may be used in Keys.antt.
 #![tactic(auto)]
+
 ghost use Rattle.std.specs.Prelude.{◌≡◌};
 ghost use Rattle.rules.specs.Tests.{
   no_work_under,

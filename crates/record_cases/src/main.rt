@@ -11,11 +11,13 @@
 // N bytes gives, and KEPT is 1 if the buffer is then as it was. Last, of how many accepted records the message that
 // was read was written as the same 32 bytes, and how many cases were accepted.
 #![tactic(auto)]
+
 mod bytes;
 mod cases;
 mod good;
 
 use cases::Case;
+use std::io;
 
 // How many cases were accepted, and how many of those were written again as the same bytes.
 #[derive(Clone, Copy)]
@@ -25,48 +27,31 @@ struct Tally {
 }
 
 // Writes a space and a number.
-fn number(n: u64) {
-    io::write_all(1, b" ");
-    io::print_decimal(1, n);
+fn number(rt: &impl Print, n: u64) -> io::Result<()> {
+    print!(rt; " {n}")
 }
 
 // Writes the name of a field.
-fn name(field: u8) {
+fn name(rt: &impl Print, field: u8) -> io::Result<()> {
     match field {
-        cases::NONE => {
-            io::write_all(1, b" -");
-        }
-        cases::KIND => {
-            io::write_all(1, b" kind");
-        }
-        cases::ZONE => {
-            io::write_all(1, b" zone");
-        }
-        cases::TIME => {
-            io::write_all(1, b" time");
-        }
-        cases::ID => {
-            io::write_all(1, b" id");
-        }
-        cases::A => {
-            io::write_all(1, b" a");
-        }
-        cases::B => {
-            io::write_all(1, b" b");
-        }
-        _ => {
-            detail_name(field);
-        }
+        cases::NONE => rt.write_all(b" -"),
+        cases::KIND => rt.write_all(b" kind"),
+        cases::ZONE => rt.write_all(b" zone"),
+        cases::TIME => rt.write_all(b" time"),
+        cases::ID => rt.write_all(b" id"),
+        cases::A => rt.write_all(b" a"),
+        cases::B => rt.write_all(b" b"),
+        _ => detail_name(rt, field),
     }
 }
 
 // Writes the name of a detail.
-fn detail_name(field: u8) {
+fn detail_name(rt: &impl Print, field: u8) -> io::Result<()> {
     if field < cases::D0 {
-        return;
+        return Ok(());
     }
-    io::write_all(1, b" d");
-    io::print_decimal(1, (field - cases::D0) as u64);
+    let n = field - cases::D0;
+    print!(rt; " d{n}")
 }
 
 // What reading gives: 0, or the number that refuses.
@@ -110,46 +95,46 @@ fn counted(t: Tally, s: &[u8]) -> Tally {
 }
 
 // Writes the line of a case.
-fn line(kind: u8, c: Case, read: u8, write: u8) {
-    io::print_decimal(1, kind as u64);
-    name(c.0);
-    number(c.1);
-    number(read as u64);
-    number(write as u64);
-    io::write_all(1, b"\n");
+fn line(rt: &impl Print, kind: u8, c: Case, read: u8, write: u8) -> io::Result<()> {
+    print!(rt; "{kind}")?;
+    name(rt, c.0)?;
+    number(rt, c.1)?;
+    number(rt, read as u64)?;
+    number(rt, write as u64)?;
+    rt.write_all(b"\n")
 }
 
 // Tries one case.
-fn tried(t: Tally, kind: u8, c: Case) -> Tally {
+fn tried(rt: &impl Print, t: Tally, kind: u8, c: Case) -> io::Result<Tally> {
     let m = cases::changed(good::good(kind), c);
     let mut s = [0u8; 32];
     bytes::store(m, &mut s);
-    line(kind, c, read_code(&s), write_code(m));
-    counted(t, &s)
+    line(rt, kind, c, read_code(&s), write_code(m))?;
+    Ok(counted(t, &s))
 }
 
 // Tries the cases that every kind has.
-fn shared_tried(t: Tally, kind: u8) -> Tally {
+fn shared_tried(rt: &impl Print, t: Tally, kind: u8) -> io::Result<Tally> {
     let mut n = t;
     let mut i: usize = 0;
     while i < cases::SHARED_COUNT {
-        n = tried(n, kind, cases::shared(i));
+        n = tried(rt, n, kind, cases::shared(i))?;
         i = i + 1;
     }
-    n
+    Ok(n)
 }
 
 // Tries the cases of one kind's own.
-fn own_tried(t: Tally, kind: u8) -> Tally {
+fn own_tried(rt: &impl Print, t: Tally, kind: u8) -> io::Result<Tally> {
     let mut n = t;
     let mut i: usize = 0;
     while i < cases::OWN_COUNT {
         if cases::own_kind(i) == kind {
-            n = tried(n, kind, cases::own(i));
+            n = tried(rt, n, kind, cases::own(i))?;
         }
         i = i + 1;
     }
-    n
+    Ok(n)
 }
 
 // What reading the first n bytes gives; 255, which reading never gives, if there are fewer.
@@ -169,35 +154,35 @@ fn write_first(m: message::Message, s: &mut [u8], n: usize) -> u8 {
 }
 
 // Tries the reading of n bytes, those of a message's record and then a 0, and the writing of the message into n bytes.
-fn length_tried(m: message::Message, n: usize) {
+fn length_tried(rt: &impl Print, m: message::Message, n: usize) -> io::Result<()> {
     let mut s = [0u8; 33];
     bytes::store(m, &mut s);
     let read = read_first(&s, n);
     let mut t = [0xAAu8; 33];
     let write = write_first(m, &mut t, n);
-    length_line(n, read, write, bytes::equal(&t, &[0xAAu8; 33]));
+    length_line(rt, n, read, write, bytes::equal(&t, &[0xAAu8; 33]))
 }
 
 // Writes the line of a length.
-fn length_line(n: usize, read: u8, write: u8, kept: bool) {
-    io::write_all(1, b"length");
-    number(n as u64);
-    number(read as u64);
-    number(write as u64);
-    number(kept as u64);
-    io::write_all(1, b"\n");
+fn length_line(rt: &impl Print, n: usize, read: u8, write: u8, kept: bool) -> io::Result<()> {
+    rt.write_all(b"length")?;
+    number(rt, n as u64)?;
+    number(rt, read as u64)?;
+    number(rt, write as u64)?;
+    number(rt, kept as u64)?;
+    rt.write_all(b"\n")
 }
 
 // Tries lengths about 32 for one message.
-fn lengths_tried(m: message::Message) {
-    length_tried(m, 0);
-    length_tried(m, 31);
-    length_tried(m, 32);
-    length_tried(m, 33);
+fn lengths_tried(rt: &impl Print, m: message::Message) -> io::Result<()> {
+    length_tried(rt, m, 0)?;
+    length_tried(rt, m, 31)?;
+    length_tried(rt, m, 32)?;
+    length_tried(rt, m, 33)
 }
 
 // Tries every case, grouped by base kind. Base kind 14 is no kind: its cases have a bad field under a bad kind.
-fn main() {
+fn main(rt: HostRuntime) -> io::Result<()> {
     let mut t = Tally {
         accepted: 0,
         same: 0,
@@ -205,22 +190,28 @@ fn main() {
     let mut kind: u8 = 1;
     while kind <= 14 {
         if kind <= 13 {
-            t = shared_tried(t, kind);
+            t = shared_tried(&rt, t, kind)?;
         }
-        t = own_tried(t, kind);
+        t = own_tried(&rt, t, kind)?;
         kind = kind + 1;
     }
-    finish(t);
+    finish(&rt, t)
 }
 
 // Tries the lengths, with a good message, one with a bad field and one with a bad kind; then writes the counts.
-fn finish(t: Tally) {
-    lengths_tried(good::good(message::CLEARANCE));
-    lengths_tried(cases::changed(good::good(message::CLEARANCE), Case(cases::D0, 64)));
-    lengths_tried(cases::changed(good::good(message::CLEARANCE), Case(cases::KIND, 14)));
-    io::write_all(1, b"same");
-    number(t.same);
-    io::write_all(1, b"\naccepted");
-    number(t.accepted);
-    io::write_all(1, b"\n");
+fn finish(rt: &impl Print, t: Tally) -> io::Result<()> {
+    lengths_tried(rt, good::good(message::CLEARANCE))?;
+    lengths_tried(
+        rt,
+        cases::changed(good::good(message::CLEARANCE), Case(cases::D0, 64)),
+    )?;
+    lengths_tried(
+        rt,
+        cases::changed(good::good(message::CLEARANCE), Case(cases::KIND, 14)),
+    )?;
+    rt.write_all(b"same")?;
+    number(rt, t.same)?;
+    rt.write_all(b"\naccepted")?;
+    number(rt, t.accepted)?;
+    rt.write_all(b"\n")
 }

@@ -2,6 +2,7 @@
 // rules are in specs/GroupRecords.antt; specs/FirstCarrier.antt says where a wrong group is reported,
 // specs/Guaranteed.antt what a good record guarantees.
 #![tactic(auto)]
+
 ghost use Rattle.std.specs.Prelude.{◌≡◌};
 ghost use Rattle.station.specs.Station.{turnouts_alone};
 ghost use Rattle.group_records.specs.GroupRecords.{

@@ -2,6 +2,7 @@
 // one, and their crossovers as groups. The byte that is the group's number in version 2 is the partner here. The rules
 // are in specs/PartnerRecords.antt; specs/Crossovers.antt has what they guarantee.
 #![tactic(auto)]
+
 ghost use Rattle.std.specs.Prelude.{◌≡◌, cond, ◌+◌, ◌<◌, min, eqb, get_or};
 ghost use Rattle.station.specs.Station.{turnouts_alone};
 ghost use Rattle.partner_records.specs.PartnerRecords.{

@@ -2,6 +2,7 @@
 // stored alone. The layout is in specs/Encoding.antt; proofs/RoundTrip.antt has that a desk, encoded and decoded, is
 // the same desk, proofs/ZonePlaces.antt that a zone stored is put into it. Every function takes any bytes and any desk.
 #![tactic(auto)]
+
 ghost use Rattle.std.specs.Prelude.{◌≡◌};
 ghost use Rattle.desk.specs.Desk.{zone_at};
 ghost use Rattle.desk_bytes.specs.Encoding.{stored_desk, stored_zone, desk_in, is_desk};

@@ -5,6 +5,7 @@ ghost use Rattle.desk_bytes.specs.Encoding.{work_in, movement_in, zone_in, desk_
 use desk::Desk;
 use zone::{Agreement, Movement, Passage, Request, Work, Zone};
 
+#[tactic(auto, unfolding(crate::specs::Encoding::work_in))]
 fn work_in(s: &[u8], at: usize) -> Work
     requires { at < 4096 }
     ensures { result ≡ work_in s.now at }
@@ -29,6 +30,7 @@ fn work_in(s: &[u8], at: usize) -> Work
     Work::NoWork
 }
 
+#[tactic(auto, unfolding(crate::specs::Encoding::movement_in))]
 fn movement_in(s: &[u8], at: usize) -> Movement
     requires { at < 4096 }
     ensures { result ≡ movement_in s.now at }
@@ -46,6 +48,7 @@ fn movement_in(s: &[u8], at: usize) -> Movement
     Movement::NoMovement
 }
 
+#[tactic(auto, unfolding(crate::specs::Encoding::zone_in))]
 pub fn zone_in(s: &[u8], at: usize) -> Zone
     requires { at < 2048 }
     ensures { result ≡ zone_in s.now at }
@@ -58,6 +61,7 @@ pub fn zone_in(s: &[u8], at: usize) -> Zone
     }
 }
 
+#[tactic(auto, unfolding(crate::specs::Encoding::desk_in))]
 pub fn desk_in(s: &[u8]) -> Desk
     ensures { result ≡ desk_in s.now }
 {

@@ -46,6 +46,7 @@ fn put_work_fields(
     bigendian::put64(s, at + 18, opened);
 }
 
+#[tactic(auto, unfolding(crate::specs::Encoding::work_bytes))]
 fn put_work(w: Work, s: &mut [u8], at: usize)
     requires { at < 4096 }
     ensures { s.new ≡ sets s.old at (work_bytes w) }
@@ -79,6 +80,7 @@ fn put_movement_fields(
     bigendian::put64(s, at + 15, efficient);
 }
 
+#[tactic(auto, unfolding(crate::specs::Encoding::movement_bytes))]
 fn put_movement(v: Movement, s: &mut [u8], at: usize)
     requires { at < 4096 }
     ensures { s.new ≡ sets s.old at (movement_bytes v) }
@@ -101,6 +103,7 @@ fn recorder_byte(working: bool) -> u8
     0
 }
 
+#[tactic(auto, unfolding(crate::specs::Encoding::last_bytes))]
 fn put_last(working: bool, time: u32, keys: u64, s: &mut [u8], at: usize)
     requires { at < 4096 }
     ensures { s.new ≡ sets s.old at (last_bytes working time keys) }

@@ -1,6 +1,7 @@
 // The answer to a record and those to the two questions, packed in one number each, for callers in C or Rust. The
 // packing is in specs/Packed.antt; that every value comes back, in specs/Unpacked.antt and proofs/Unpacked.antt.
 #![tactic(auto)]
+
 ghost use Rattle.std.specs.Prelude.{◌≡◌};
 ghost use Rattle.packed.specs.Packed.{answer_packed, regime_number, movement_packed, work_packed};
 

@@ -1,0 +1,6 @@
+use Rattle.std.proofs.Common.{sym}
+use Rattle.desk_bytes.proofs.Kept.{keys_kept}
+use Rattle.desk_bytes.proofs.checking.keys_kept.Goals as goal
+
+pub returns : goal.returns
+returns c = rw (c.get64.ensures, c.get8.ensures) (sym (keys_kept c.args.s.now c.args.at))

@@ -1,6 +1,7 @@
 // The thirteen kinds of message over one zone (KIND-1 to KIND-13 of docs/RULES.md): each is its checks, in the written
 // order, and its effect. The rules are in the crate `rules`, specs/Kinds.antt.
 #![tactic(auto)]
+
 ghost use Rattle.std.specs.Prelude.{◌≡◌};
 ghost use Rattle.rules.specs.Kinds.{answered, heard_on};
 

@@ -1,0 +1,16 @@
+use Rattle.rules.specs.Kinds.{row}
+use Rattle.kinds.proofs.codes.ordered.Goals as goal
+
+pub returns : goal.returns
+unfolding row
+returns c =
+    rw (
+      c.first_code.ensures,
+      c.no_movement_under.ensures,
+      c.first_code-stage.ensures,
+      c.is_ordered.ensures,
+      c.first_code-order.ensures,
+      c.order_forbidden.ensures,
+      c.movement_under-v.ensures,
+      c.work_of-w.ensures,
+    )

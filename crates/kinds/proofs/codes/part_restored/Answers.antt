@@ -1,0 +1,20 @@
+use Rattle.rules.specs.Kinds.{row}
+use Rattle.kinds.proofs.codes.part_restored.Goals as goal
+
+pub returns : goal.returns
+unfolding row
+returns c =
+    rw (
+      c.first_code.ensures,
+      c.no_work_under.ensures,
+      c.first_code-set.ensures,
+      c.bad_part.ensures,
+      c.work_set.ensures,
+      c.first_code-stage.ensures,
+      c.is_agreed.ensures,
+      c.first_code-way.ensures,
+      c.names_of.ensures,
+      c.first_code-form.ensures,
+      c.manner_of.ensures,
+      c.work_of-w.ensures,
+    )

@@ -1,0 +1,14 @@
+use Rattle.rules.specs.Kinds.{answered, zone_after, work_after, moved, recorder_after, minutes_for}
+use Rattle.kinds.proofs.key_used.Goals as goal
+
+pub returns : goal.returns
+unfolding answered zone_after work_after moved recorder_after minutes_for
+returns c =
+    rw (
+      c.settle.ensures,
+      c.key_used.ensures,
+      c.at_time-next.ensures,
+      c.changed_under.ensures,
+      c.keyed_at.ensures,
+      c.movement_under-v.ensures,
+    )

@@ -1,0 +1,13 @@
+use Rattle.rules.specs.Kinds.{answered, zone_after, work_after, moved, recorder_after, minutes_for}
+use Rattle.kinds.proofs.part_restored.Goals as goal
+
+pub returns : goal.returns
+unfolding answered zone_after work_after moved recorder_after minutes_for
+returns c =
+    rw (
+      c.settle.ensures,
+      c.part_restored.ensures,
+      c.with_work-next.ensures,
+      c.restored_of.ensures,
+      c.work_of-w.ensures,
+    )

@@ -2,6 +2,7 @@
 // reading are in specs/Sheet.antt, those of turnout records in the crates `group_records` and `partner_records`, those
 // of the bytes in `layout`. specs/Accepted.antt has what an accepted sheet guarantees of its station.
 #![tactic(auto)]
+
 ghost use Rattle.std.specs.Prelude.{◌≡◌};
 ghost use Rattle.sheet.specs.Sheet.{read_sheet};
 

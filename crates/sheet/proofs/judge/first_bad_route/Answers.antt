@@ -1,0 +1,115 @@
+use Rattle.std.proofs.Common.{◌≡◌, ℕ, ◌-◌, ◌<◌, List, true, false, sym, ap, ◌∙◌, rules, arith}
+use mathlib.Core.Path.{ap₂}
+use native.Mathlib.Nat.{sub-zero}
+use Prim.Native.Nat.{min}
+use lib.ListN.{get_or}
+use Rattle.sets.specs.Range.{all_from, first_from}
+use Rattle.sets.specs.Table.{places}
+use Rattle.sets.proofs.Ranges.{all-next, all_end, first_next, first-end}
+use Rattle.sets.proofs.Tables.{places-below}
+use Rattle.station.specs.declared.Station.{Station}
+use Rattle.station.specs.declared.Route.{Route}
+use Rattle.station.specs.Station.{turnout_at, route_at, turnout_count, route_count}
+use Rattle.groups.specs.Groups.{tied, tied_among}
+use Rattle.sheet.specs.Sheet.{member_by, pair_in, good_route, bad_route}
+use Rattle.sheet.proofs.ByPair.{by-pair}
+use Rattle.sheet.proofs.judge.first_bad_route.Invariants.{test, bad_for, bad}
+use Rattle.sheet.proofs.judge.first_bad_route.Goals as goal
+
+-- the rule, by the numbers that the code has
+found :
+    (st : Station) (p n : ℕ) → p ≡ turnout_count st → n ≡ route_count st →
+    bad_route st ≡ first_from (bad p st) 0 n
+unfolding bad_route good_route
+found st p n ep en =
+    let limit : turnout_count st ≡ min p 64 = omega arith in
+    ap (λ (m : ℕ). first_from (bad_for m (turnout_count st) st) 0 (route_count st)) limit ∙ rw (ep, en)
+
+-- the test of a turnout, by the tables that the code has
+by-tables :
+    (st : Station) (r : Route) (k : ℕ) (ties pairs : List ℕ)
+    → ties ≡ places (tied_among st.turnouts st.turnout) st.turnouts 0
+    → pairs ≡ places (λ j. pair_in (get_or ties j 0)) st.turnouts 0 → k < turnout_count st
+    → member_by r k (turnout_at st k) (get_or ties k 0) (get_or pairs k 0) ≡ test st r k
+by-tables st r k ties pairs et ep below =
+    let group : get_or ties k 0 ≡ tied st k =
+    ap (λ (l : List ℕ). get_or l k 0) et
+    ∙ places-below (tied_among st.turnouts st.turnout) st.turnouts 0 k below in
+    let pair : get_or pairs k 0 ≡ pair_in (tied st k) =
+    ap (λ (l : List ℕ). get_or l k 0) ep
+    ∙ places-below (λ j. pair_in (get_or ties j 0)) st.turnouts 0 k below
+    ∙ ap pair_in group in
+    ap₂ (λ (g q : ℕ). member_by r k (turnout_at st k) g q) group pair
+    ∙ by-pair r k (turnout_at st k) (tied st k)
+
+pub routes-init : goal.routes-init
+routes-init c = (search rules, rw sub-zero)
+
+pub loop-k-init : goal.loop-k-init
+loop-k-init c = (search rules, rw sub-zero)
+
+pub loop-k-preserved : goal.loop-k-preserved
+loop-k-preserved c =
+    let st = c.args.st in
+    let p = c.turnout_count-p.result in
+    let r = route_at st c.routes.i in
+    let k = c.loop-k.k in
+    let below : k < turnout_count st = omega arith in
+    let tested =
+    by-tables st r k c.ties-tied.result c.pairs_in-pairs.result c.ties-tied.ensures c.pairs_in-pairs.ensures below in
+    let passes : test st r k ≡ true = sym (c.member_kept.ensures ∙ tested) ∙ c.if-not-member_kept.false in
+    (search rules, c.loop-k.invariant.1 ∙ all-next (test st r) k p c.loop-k-test.true ∙ rw passes)
+
+pub routes-preserved : goal.routes-preserved
+routes-preserved c =
+    let st = c.args.st in
+    let p = c.turnout_count-p.result in
+    let n = c.route_count-n.result in
+    let i = c.routes.i in
+    let k = c.loop-k.k in
+    let r = route_at st i in
+    let sets = sym c.sets_kept.ensures ∙ c.if-not-sets_kept.false in
+    let ended : k ≡ p = omega arith in
+    let all =
+    c.loop-k.invariant.1 ∙ ap (λ (j : ℕ). all_from (test st r) j (p - j)) ended ∙ all_end (test st r) p in
+    let good : bad p st i ≡ false = rw (sets, all) in
+    (search rules, c.routes.invariant.1 ∙ first_next (bad p st) i n c.routes-test.true ∙ rw good)
+
+pub returns-after-routes : goal.returns-after-routes
+returns-after-routes c =
+    let st = c.args.st in
+    let p = c.turnout_count-p.result in
+    let n = c.route_count-n.result in
+    let ended : c.routes.i ≡ n = omega arith in
+    let start = found st p n c.turnout_count-p.ensures c.route_count-n.ensures in
+    let left = start ∙ c.routes.invariant.1 ∙ ap (λ (j : ℕ). first_from (bad p st) j (n - j)) ended in
+    ended ∙ sym (left ∙ first-end (bad p st) n)
+
+pub returns-then-not-sets_kept : goal.returns-then-not-sets_kept
+returns-then-not-sets_kept c =
+    let st = c.args.st in
+    let p = c.turnout_count-p.result in
+    let n = c.route_count-n.result in
+    let i = c.routes.i in
+    let sets = sym c.sets_kept.ensures ∙ c.if-not-sets_kept.true in
+    let now-bad : bad p st i ≡ true = rw sets in
+    let start = found st p n c.turnout_count-p.ensures c.route_count-n.ensures in
+    sym (start ∙ c.routes.invariant.1 ∙ first_next (bad p st) i n c.routes-test.true ∙ rw now-bad)
+
+pub returns-then-not-member_kept : goal.returns-then-not-member_kept
+returns-then-not-member_kept c =
+    let st = c.args.st in
+    let p = c.turnout_count-p.result in
+    let n = c.route_count-n.result in
+    let i = c.routes.i in
+    let r = route_at st i in
+    let k = c.loop-k.k in
+    let sets = sym c.sets_kept.ensures ∙ c.if-not-sets_kept.false in
+    let below : k < turnout_count st = omega arith in
+    let tested =
+    by-tables st r k c.ties-tied.result c.pairs_in-pairs.result c.ties-tied.ensures c.pairs_in-pairs.ensures below in
+    let fails : test st r k ≡ false = sym (c.member_kept.ensures ∙ tested) ∙ c.if-not-member_kept.true in
+    let some = c.loop-k.invariant.1 ∙ all-next (test st r) k p c.loop-k-test.true in
+    let now-bad : bad p st i ≡ true = rw (sets, some, fails) in
+    let start = found st p n c.turnout_count-p.ensures c.route_count-n.ensures in
+    sym (start ∙ c.routes.invariant.1 ∙ first_next (bad p st) i n c.routes-test.true ∙ rw now-bad)

@@ -2,6 +2,7 @@
 // specs/SheetBytes.antt; they are the inverse of the station that the crate `layout` finds in bytes
 // (proofs/Inverse.antt). Storing takes any station and any buffer; the crate `sheet_writer` refuses.
 #![tactic(auto)]
+
 ghost use Rattle.std.specs.Prelude.{◌≡◌, ◌<◌, ◌+◌, ◌*◌, min};
 ghost use Rattle.std.proofs.lemmas.List.Edits.{sets};
 ghost use Rattle.sheet_bytes.specs.SheetBytes.{

@@ -3,6 +3,7 @@
 // function takes any station and any desk value. specs/Separate.antt is the law that a message touches its own zone
 // alone (APART-1, APART-2).
 #![tactic(auto)]
+
 ghost use Rattle.std.specs.Prelude.{◌≡◌, ◌<◌};
 ghost use Rattle.desk.specs.Desk.{
   fresh_desk,

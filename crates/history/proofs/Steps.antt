@@ -19,7 +19,6 @@ use Rattle.zone.specs.Movement.{under_train, cleared_set, named_turnouts, worked
 use Rattle.zone.specs.Movement.{movement_for, cleared_at, keyed_at, ordered_as}
 use Rattle.rules.specs.Clearance.{is_efficient, clearance_fits}
 use Rattle.rules.specs.Tests.{bad_request, bad_detection}
-use Rattle.history.specs.History.{opened}
 use Rattle.history.proofs.Append.{◌then◌}
 use Rattle.history.proofs.Works as works
 use Rattle.history.proofs.Works.{shut_open, agreed-in, left_in}

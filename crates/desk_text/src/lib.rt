@@ -2,6 +2,7 @@
 // specs/Printed.antt; proofs/Printed.antt has that there is always room for the answers, and that a buffer of ROOM
 // bytes holds the whole text.
 #![tactic(auto)]
+
 ghost use Rattle.std.specs.Prelude.{◌≡◌};
 ghost use Rattle.report.specs.Text.{put_all};
 ghost use Rattle.desk_text.specs.Printed.{printed};

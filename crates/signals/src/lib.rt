@@ -2,6 +2,7 @@
 // from the kind of line, the signal and what is known of it. The verdicts are a constant table; the rule that it holds
 // is in specs/Signals.antt.
 #![tactic(auto)]
+
 ghost use Rattle.std.specs.Prelude.{◌≡◌, ◌≤◌};
 ghost use Rattle.signals.specs.Answer.{answer_of, judged, number_of};
 

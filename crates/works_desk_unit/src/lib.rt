@@ -5,6 +5,7 @@
 // holds of them, proofs/Calls.antt that the numbers which the calls return show it, proofs/Separation.antt that a zone's
 // answers go by its own messages alone.
 #![tactic(auto)]
+
 ghost use Rattle.std.specs.Prelude.{◌≡◌};
 ghost use Rattle.packed.specs.Packed.{movement_packed, work_packed};
 ghost use Rattle.works_desk_unit.specs.Unit.{unit_fresh, start_number, unit_applied, called, unit_movement, unit_work};

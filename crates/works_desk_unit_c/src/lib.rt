@@ -1,6 +1,7 @@
 // The static library of the unit, for firmware in C or Rust: the calls of the crate `works_desk_unit`, each with the same
 // clauses. A byte slice goes as a pointer and a length. tools/archives lays it out as libworks_desk_unit.a.
 #![tactic(auto)]
+
 ghost use Rattle.std.specs.Prelude.{◌≡◌};
 ghost use Rattle.packed.specs.Packed.{movement_packed, work_packed};
 ghost use Rattle.works_desk_unit.specs.Unit.{unit_fresh, unit_applied, called, unit_movement, unit_work};

@@ -1,6 +1,7 @@
 // The cabin panel's reader of station sheets (PANEL-1 to PANEL-3 of docs/RULES.md): the desk's, with limits of its own.
 // The rules are in specs/Panel.antt; specs/Laws.antt has how the two readers' answers go together.
 #![tactic(auto)]
+
 ghost use Rattle.std.specs.Prelude.{◌≡◌};
 ghost use Rattle.panel.specs.Panel.{panel_number, read_panel_sheet};
 
@@ -16,6 +17,7 @@ pub const ROUTES: u8 = 8;
 pub const OVER_LIMITS: u8 = 9;
 
 // 0 if the header and the length are good for a panel, else the first number of 1, 2, 3, 4, 9, 1 that fits (PANEL-2).
+#[tactic(auto, unfolding(crate::specs::Panel::panel_number))]
 fn panel_code(s: &[u8]) -> u8
     ensures { result ≡ panel_number s.now }
 {

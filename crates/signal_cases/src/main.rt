@@ -3,6 +3,8 @@
 // written from these rules by hand.
 #![tactic(auto)]
 
+use std::io;
+
 // The questions: line, signal, flags. Flags: 1 held, 2 day, 4 SSC fitted, 8 ensured, 16 lights touched, 32 cannot
 // light wrongly.
 const CASES: [[u8; 3]; 79] = [
@@ -102,26 +104,27 @@ const CASES: [[u8; 3]; 79] = [
     [255, 255, 255],
 ];
 
-fn main() {
+fn main(rt: HostRuntime) -> io::Result<()> {
     let mut i: usize = 0;
     while i < CASES.len() {
-        print_case(CASES[i]);
+        print_case(&rt, CASES[i])?;
         i += 1;
     }
+    Ok(())
 }
 
 // The line of one question.
-fn print_case(case: [u8; 3]) {
+fn print_case(rt: &impl Print, case: [u8; 3]) -> io::Result<()> {
     let ruling = signals::judge(case[0], case[1], case[2]);
-    print(case[0], b" ");
-    print(case[1], b" ");
-    print(case[2], b" ");
-    print(signals::ruling_code(ruling), b" ");
-    print(signals::ruling_verdict(ruling), b"\n");
+    print(rt, case[0], b" ")?;
+    print(rt, case[1], b" ")?;
+    print(rt, case[2], b" ")?;
+    print(rt, signals::ruling_code(ruling), b" ")?;
+    print(rt, signals::ruling_verdict(ruling), b"\n")
 }
 
 // A number, and what stands after it.
-fn print(n: u8, after: &[u8]) {
-    io::print_decimal(1, n as u64);
-    io::write_all(1, after);
+fn print(rt: &impl Print, n: u8, after: &[u8]) -> io::Result<()> {
+    print!(rt; "{n}")?;
+    rt.write_all(after)
 }

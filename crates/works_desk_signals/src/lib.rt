@@ -1,6 +1,7 @@
 // What the level Line adds to the static library `works_desk_journal`: the verdicts for works on signals (SIGNAL-1 to
 // SIGNAL-10 of docs/RULES.md).
 #![tactic(auto)]
+
 ghost use Rattle.std.specs.Prelude.{◌≡◌};
 ghost use Rattle.signals.specs.Answer.{judged};
 ghost use Rattle.works_desk_signals.specs.Packed.{verdict_packed};

@@ -2,6 +2,7 @@
 // a station in the crate `sheet_bytes`. specs/Laws.antt says what follows: what is written reads as the station, and a
 // sheet that is read and written is the same bytes.
 #![tactic(auto)]
+
 ghost use Rattle.std.specs.Prelude.{◌≡◌};
 ghost use Rattle.sheet_writer.specs.Writer.{described, written_sheet, copied_sheet};
 
@@ -16,6 +17,7 @@ pub const NO_SHEET: u8 = 7;
 pub const SHORT_BUFFER: u8 = 8;
 
 // Whether some sheet describes the station, as it stands (WRITE-3).
+#[tactic(auto, unfolding(crate::specs::Writer::described))]
 fn is_described(st: Station) -> bool
     ensures { result ≡ described st }
 {

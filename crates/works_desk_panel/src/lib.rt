@@ -1,6 +1,7 @@
 // The static library of the cabin panel (PANEL-1 to PANEL-3 of docs/RULES.md), a product of its own, for firmware in C
 // or Rust: a byte slice goes as a pointer and a length. It takes any bytes.
 #![tactic(auto)]
+
 ghost use Rattle.std.specs.Prelude.{◌≡◌};
 ghost use Rattle.works_desk_panel.specs.Packed.{panel_packed};
 

@@ -1,6 +1,7 @@
 // The writer of sheets and the test for splitting for every station value, from numbers in bytes: what `./compare`
 // tries them by. It is not shipped: a station that no sheet gave does not come from a unit.
 #![tactic(auto)]
+
 ghost use Rattle.std.specs.Prelude.{◌≡◌};
 ghost use Rattle.station.specs.Station.{number_if};
 ghost use Rattle.groups.specs.Groups.{splits};
@@ -13,6 +14,7 @@ use station::Station;
 const RECORDS: usize = 2312;
 
 // The station with these numbers.
+#[tactic(auto, unfolding(crate::specs::Values::station_of))]
 fn station_of(values: &[u8]) -> Station
     ensures { result ≡ station_of values.now }
 {

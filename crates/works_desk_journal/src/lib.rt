@@ -2,6 +2,7 @@
 // pointer and a length; several values come back packed in one number, which specs/Packed.antt and the crate `packed`
 // define. Every function takes any bytes and any numbers (CALL-1 of docs/RULES.md).
 #![tactic(auto)]
+
 ghost use Rattle.std.specs.Prelude.{◌≡◌};
 ghost use Rattle.message.specs.Record.{read_record, written};
 ghost use Rattle.sheet.specs.Sheet.{read_sheet};

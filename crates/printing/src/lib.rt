@@ -2,11 +2,13 @@
 // of docs/RULES.md), for any names. The text is `desk_text`'s; what is proved here is that the program's buffers hold
 // all of it, and that printing is safe and ends.
 #![tactic(auto)]
+
 ghost use Rattle.std.specs.Prelude.{◌≤◌, length};
-ghost use Rattle.io.specs.Counts.{IsPrefixLen};
+ghost use Rattle.files.specs.Counts.{IsPrefixLen};
 ghost use Rattle.printing.specs.Files.{TextOfFiles};
 
-use libc::STDOUT_FILENO;
+use std::io;
+use std::rt::Files;
 
 // Room for a sheet: more than the longest, 2,312 bytes, so that a longer one shows.
 const SHEET: usize = 4096;
@@ -29,12 +31,16 @@ fn text_of_files(sheet: &[u8], n: usize, journal: &[u8], m: usize, out: &mut [u8
 }
 
 // Prints the text of the files with these names; a file that cannot be read counts as empty (PROGRAM-2).
-pub fn print_files(sheet_name: &[u8], journal_name: &[u8]) {
+pub fn print_files(
+    rt: &(impl Files + Print),
+    sheet_name: &[u8],
+    journal_name: &[u8],
+) -> io::Result<()> {
     let mut sheet = [0u8; SHEET];
     let mut journal = [0u8; JOURNAL];
     let mut out = [0u8; desk_text::ROOM];
-    let n = files::read_file(sheet_name, &mut sheet);
-    let m = files::read_file(journal_name, &mut journal);
+    let n = files::read_file(rt, sheet_name, &mut sheet);
+    let m = files::read_file(rt, journal_name, &mut journal);
     let text = text_of_files(&sheet, n, &journal, m, &mut out);
-    io::write_all(STDOUT_FILENO, &out[..text]);
+    rt.write_all(&out[..text])
 }

@@ -2,6 +2,9 @@
 // folder, hears every record of the journal, and prints a line for each: its number from 1, the code, the minutes. A
 // refused sheet, else a refused journal, prints its number alone. The text is `desk_text`'s.
 #![tactic(auto)]
-fn main() {
-    printing::print_files(b"sheet", b"journal");
+
+use std::io;
+
+fn main(rt: HostRuntime) -> io::Result<()> {
+    printing::print_files(&rt, b"sheet", b"journal")
 }

@@ -5,6 +5,7 @@ use super::writing::{BEFORE, same, untouched};
 use super::{bases, first, write_number};
 use case_rows::{number_at, put_pairs};
 use station::{Route, Station, Turnout};
+use std::io;
 
 // 1 if two numbers differ.
 fn differ(a: u64, b: u64) -> u64 {
@@ -48,22 +49,22 @@ fn differing(a: Station, b: Station) -> u64 {
 }
 
 // Writes how many numbers differ in the stations that two sheets give.
-fn write_differing(s: &[u8], t: &[u8]) {
+fn write_differing(rt: &impl Print, s: &[u8], t: &[u8]) -> io::Result<()> {
     let a = sheet::read_sheet(s);
     let b = sheet::read_sheet(t);
     let x = a.station;
     let y = b.station;
-    write_number(differing(x, y));
+    write_number(rt, differing(x, y))
 }
 
 // Writes the code that reading a sheet gives.
-fn write_code(s: &[u8]) {
+fn write_code(rt: &impl Print, s: &[u8]) -> io::Result<()> {
     let r = sheet::read_sheet(s);
-    write_number(r.code as u64);
+    write_number(rt, r.code as u64)
 }
 
 // Tries the two sheets that the line has from a place on, the damage in the first; the place after them.
-pub fn stations_tried(input: &[u8], at: usize) -> usize {
+pub fn stations_tried(rt: &impl Print, input: &[u8], at: usize) -> io::Result<usize> {
     let one = number_at(input, at);
     let other = number_at(input, one.next);
     let mut s = [0u8; 2312];
@@ -73,35 +74,36 @@ pub fn stations_tried(input: &[u8], at: usize) -> usize {
     let next = put_pairs(&mut s, input, other.next);
     let a = first(&s, bases::base_length(one.value));
     let b = first(&t, bases::base_length(other.value));
-    write_code(a);
-    write_code(b);
-    write_differing(a, b);
-    next
+    write_code(rt, a)?;
+    write_code(rt, b)?;
+    write_differing(rt, a, b)?;
+    Ok(next)
 }
 
 // Copies a sheet into a buffer, and puts out what comes of it.
-fn copied(sheet: &[u8], s: &mut [u8]) {
+fn copied(rt: &impl Print, sheet: &[u8], s: &mut [u8]) -> io::Result<()> {
     let found = sheet_writer::copy_sheet(sheet, s);
     let n = same(s, sheet);
-    write_number(found.code as u64);
-    write_number(found.index as u64);
-    write_number(n as u64);
-    write_number(untouched(s, n));
+    write_number(rt, found.code as u64)?;
+    write_number(rt, found.index as u64)?;
+    write_number(rt, n as u64)?;
+    write_number(rt, untouched(s, n))?;
     if found.code == 0 {
-        write_differing(sheet, first(s, sheet.len()));
+        write_differing(rt, sheet, first(s, sheet.len()))?;
     }
+    Ok(())
 }
 
 // Copies it into the first n bytes of a buffer; tries nothing if there are fewer.
-fn copied_to(sheet: &[u8], s: &mut [u8], n: usize) {
+fn copied_to(rt: &impl Print, sheet: &[u8], s: &mut [u8], n: usize) -> io::Result<()> {
     if s.len() < n {
-        return;
+        return Ok(());
     }
-    copied(sheet, &mut s[..n]);
+    copied(rt, sheet, &mut s[..n])
 }
 
 // Tries the copy that the line has from a place on; the place after it.
-pub fn copy_tried(input: &[u8], at: usize) -> usize {
+pub fn copy_tried(rt: &impl Print, input: &[u8], at: usize) -> io::Result<usize> {
     let base = number_at(input, at);
     let length = number_at(input, base.next);
     let room = number_at(input, length.next);
@@ -110,9 +112,10 @@ pub fn copy_tried(input: &[u8], at: usize) -> usize {
     let next = put_pairs(&mut s, input, room.next);
     let mut w = [BEFORE; 2400];
     copied_to(
+        rt,
         first(&s, length.value as usize),
         &mut w,
         room.value as usize,
-    );
-    next
+    )?;
+    Ok(next)
 }

@@ -44,6 +44,7 @@
 // sheet with its damage, up to the first that differs; how many of the rest are still 170; and, if it was copied,
 // how many of the 515 numbers differ between the station of the sheet and that of the copy.
 #![tactic(auto)]
+
 mod bases;
 mod comparing;
 mod grouped;
@@ -55,27 +56,26 @@ mod stations;
 mod writing;
 
 use case_rows::{number_at, put_pairs};
+use std::io;
 
 // Writes a space and a number.
-fn write_number(n: u64) {
-    io::write_all(1, b" ");
-    io::print_decimal(1, n);
+fn write_number(rt: &impl Print, n: u64) -> io::Result<()> {
+    print!(rt; " {n}")
 }
 
 // Writes the code and the index that reading a sheet gave.
-fn write_finding(r: sheet::Sheet) {
-    write_number(r.code as u64);
-    write_number(r.index as u64);
+fn write_finding(rt: &impl Print, r: sheet::Sheet) -> io::Result<()> {
+    write_number(rt, r.code as u64)?;
+    write_number(rt, r.index as u64)
 }
 
 // Writes what reading a sheet gives.
-fn write_reading(s: &[u8], base: u16) {
+fn write_reading(rt: &impl Print, s: &[u8], base: u16) -> io::Result<()> {
     let r = sheet::read_sheet(s);
     if base == 5 {
-        write_number(stations::sum(r.station));
-        return;
+        return write_number(rt, stations::sum(r.station));
     }
-    write_finding(r);
+    write_finding(rt, r)
 }
 
 // The first n bytes; all, if there are fewer.
@@ -95,85 +95,86 @@ fn sheet_of(base: u16) -> u16 {
 }
 
 // Tries the sheet that the line has from a place on; the place after it.
-fn sheet_tried(input: &[u8], base: u16, at: usize) -> usize {
+fn sheet_tried(rt: &impl Print, input: &[u8], base: u16, at: usize) -> io::Result<usize> {
     let n = number_at(input, at);
     let mut s = [0u8; 2312];
     bases::put_base(&mut s, sheet_of(base));
     let next = put_pairs(&mut s, input, n.next);
-    write_reading(first(&s, n.value as usize), base);
-    next
+    write_reading(rt, first(&s, n.value as usize), base)?;
+    Ok(next)
 }
 
 // Tries the question that the line has from a place on; the place after it.
-fn question_tried(input: &[u8], question: u16, at: usize) -> usize {
+fn question_tried(rt: &impl Print, input: &[u8], question: u16, at: usize) -> io::Result<usize> {
     let count = number_at(input, at);
     let number = number_at(input, count.next);
     let n = number_at(input, number.next);
     let st = stations::asked(count.value, number.value);
-    write_number(stations::answer(st, question, n.value));
-    n.next
+    write_number(rt, stations::answer(st, question, n.value))?;
+    Ok(n.next)
 }
 
 // Tries what stands after the name; the place after it.
-fn rest_tried(input: &[u8], at: usize) -> usize {
+fn rest_tried(rt: &impl Print, input: &[u8], at: usize) -> io::Result<usize> {
     let first = number_at(input, at);
     let number = first.value;
     match number {
-        6 => panels::tried(input, first.next),
-        7 => splitting::tried(input, first.next),
-        8 => splitting::tied_tried(input, first.next),
-        40 => comparing::stations_tried(input, first.next),
-        41 => numbers::plain_tried(input, first.next),
-        42 => numbers::base_tried(input, first.next),
-        43 => comparing::copy_tried(input, first.next),
-        _ => tens_tried(input, number, first.next),
+        6 => panels::tried(rt, input, first.next),
+        7 => splitting::tried(rt, input, first.next),
+        8 => splitting::tied_tried(rt, input, first.next),
+        40 => comparing::stations_tried(rt, input, first.next),
+        41 => numbers::plain_tried(rt, input, first.next),
+        42 => numbers::base_tried(rt, input, first.next),
+        43 => comparing::copy_tried(rt, input, first.next),
+        _ => tens_tried(rt, input, number, first.next),
     }
 }
 
 // Tries a line whose number is one of many alike: a sheet, a question, or a station that is written.
-fn tens_tried(input: &[u8], number: u16, at: usize) -> usize {
+fn tens_tried(rt: &impl Print, input: &[u8], number: u16, at: usize) -> io::Result<usize> {
     if number < 10 {
-        return sheet_tried(input, number, at);
+        return sheet_tried(rt, input, number, at);
     }
     if number < 20 {
-        return question_tried(input, number, at);
+        return question_tried(rt, input, number, at);
     }
     if number < 30 {
-        return writing::tried(input, number - 20, at);
+        return writing::tried(rt, input, number - 20, at);
     }
     if number < 50 {
-        return sheet_tried(input, number, at);
+        return sheet_tried(rt, input, number, at);
     }
-    writing::tried(input, number - 20, at)
+    writing::tried(rt, input, number - 20, at)
 }
 
 // Tries the line at a place, if there is one and it is no remark; the place of the next line.
-fn line_tried(input: &[u8], at: usize) -> usize {
+fn line_tried(rt: &impl Print, input: &[u8], at: usize) -> io::Result<usize> {
     let first = case_rows::byte_at(input, at);
     if first == b'\n' {
-        return at;
+        return Ok(at);
     }
     if first == b'#' {
-        return case_rows::after_line(input, at);
+        return Ok(case_rows::after_line(input, at));
     }
-    io::write_all(1, case_rows::name(input, at));
-    let next = rest_tried(input, case_rows::after_name(input, at));
-    io::write_all(1, b"\n");
-    case_rows::after(next)
+    rt.write_all(case_rows::name(input, at))?;
+    let next = rest_tried(rt, input, case_rows::after_name(input, at))?;
+    rt.write_all(b"\n")?;
+    Ok(case_rows::after(next))
 }
 
 // Tries every line, at most 1,600.
-fn all_tried(input: &[u8]) {
+fn all_tried(rt: &impl Print, input: &[u8]) -> io::Result<()> {
     let mut at: usize = 0;
     let mut i: usize = 0;
     while i < 1600 {
-        at = line_tried(input, at);
+        at = line_tried(rt, input, at)?;
         i += 1;
     }
+    Ok(())
 }
 
-fn main() {
+fn main(rt: HostRuntime) -> io::Result<()> {
     let mut input = [b'\n'; 65536];
-    io::read_full(0, &mut input);
-    all_tried(&input);
+    files::read_all(&mut rt.reader(), &mut input);
+    all_tried(&rt, &input)
 }

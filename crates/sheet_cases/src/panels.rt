@@ -3,6 +3,7 @@
 use super::sheets::put_header;
 use super::{first, stations, write_finding, write_number};
 use case_rows::{number_at, put, put_pairs};
+use std::io;
 
 // Stores turnout n in bytes that are 0: in zone 0, alone, electric.
 fn put_turnout(s: &mut [u8], n: u8) {
@@ -39,25 +40,25 @@ pub fn put_plain(s: &mut [u8], p: u8, r: u8) {
 }
 
 // Writes what a reading gave: the code, the index, and the sum of the station.
-fn write_all_of(r: sheet::Sheet) {
-    write_finding(r);
-    write_number(stations::sum(r.station));
+fn write_all_of(rt: &impl Print, r: sheet::Sheet) -> io::Result<()> {
+    write_finding(rt, r)?;
+    write_number(rt, stations::sum(r.station))
 }
 
 // Writes what the panel's reading of the bytes gives, then the desk's.
-fn write_both(s: &[u8]) {
-    write_all_of(panel::read_panel_sheet(s));
-    write_all_of(sheet::read_sheet(s));
+fn write_both(rt: &impl Print, s: &[u8]) -> io::Result<()> {
+    write_all_of(rt, panel::read_panel_sheet(s))?;
+    write_all_of(rt, sheet::read_sheet(s))
 }
 
 // Tries the plain sheet that the line has from a place on; the place after it.
-pub fn tried(input: &[u8], at: usize) -> usize {
+pub fn tried(rt: &impl Print, input: &[u8], at: usize) -> io::Result<usize> {
     let p = number_at(input, at);
     let r = number_at(input, p.next);
     let n = number_at(input, r.next);
     let mut s = [0u8; 2312];
     put_plain(&mut s, (p.value % 256) as u8, (r.value % 256) as u8);
     let next = put_pairs(&mut s, input, n.next);
-    write_both(first(&s, n.value as usize));
-    next
+    write_both(rt, first(&s, n.value as usize))?;
+    Ok(next)
 }

@@ -4,6 +4,7 @@ use super::{stations, write_number};
 use case_rows::{byte_at, number_at, put_pairs};
 use station::observe::{no_routes, no_turnouts, with_turnout};
 use station::{Station, Turnout};
+use std::io;
 
 // The numbers of a row: that of turnout n's group at place n, and 1 at place 100 + n where the set has turnout n.
 const PLACES: usize = 164;
@@ -52,23 +53,23 @@ pub fn put_more_pairs(s: &mut [u8], input: &[u8], at: usize) -> usize {
 }
 
 // Tries the station and the set that the line has from a place on; the place after them.
-pub fn tried(input: &[u8], at: usize) -> usize {
+pub fn tried(rt: &impl Print, input: &[u8], at: usize) -> io::Result<usize> {
     let count = number_at(input, at);
     let mut s = [255u8; PLACES];
     let next = put_more_pairs(&mut s, input, count.next);
     let st = station_in(count.value, &s);
-    write_number(stations::splits(st, set_in(&s)) as u64);
-    next
+    write_number(rt, stations::splits(st, set_in(&s)) as u64)?;
+    Ok(next)
 }
 
 // Tries the station and the turnout that the line has from a place on; the place after them.
-pub fn tied_tried(input: &[u8], at: usize) -> usize {
+pub fn tied_tried(rt: &impl Print, input: &[u8], at: usize) -> io::Result<usize> {
     let count = number_at(input, at);
     let n = number_at(input, count.next);
     let mut s = [255u8; PLACES];
     let next = put_more_pairs(&mut s, input, n.next);
     let st = station_in(count.value, &s);
-    write_number(stations::tied(st, n.value as usize));
-    write_number(stations::grouped(st, n.value as usize) as u64);
-    next
+    write_number(rt, stations::tied(st, n.value as usize))?;
+    write_number(rt, stations::grouped(st, n.value as usize) as u64)?;
+    Ok(next)
 }

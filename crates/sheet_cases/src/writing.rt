@@ -3,6 +3,7 @@ use super::stations::plus;
 use super::{bases, first, write_number};
 use case_rows::{byte_at, number_at};
 use station::{Route, Station, Turnout};
+use std::io;
 
 // Every byte of the buffer before the call.
 pub const BEFORE: u8 = 170;
@@ -139,42 +140,54 @@ pub fn untouched(s: &[u8], from: usize) -> u64 {
 }
 
 // Tries to write the sheet of a station into a buffer, and puts out the three numbers.
-fn buffer_tried(st: Station, s: &mut [u8], sheet: &[u8]) {
+fn buffer_tried(rt: &impl Print, st: Station, s: &mut [u8], sheet: &[u8]) -> io::Result<()> {
     let code = sheet_writer::write_sheet(st, s);
     let n = same(s, sheet);
-    write_number(code as u64);
-    write_number(n as u64);
-    write_number(untouched(s, n));
+    write_number(rt, code as u64)?;
+    write_number(rt, n as u64)?;
+    write_number(rt, untouched(s, n))
 }
 
 // Tries it with the first n bytes of a buffer; tries nothing if there are fewer.
-fn part_tried(st: Station, s: &mut [u8], n: usize, sheet: &[u8]) {
+fn part_tried(
+    rt: &impl Print,
+    st: Station,
+    s: &mut [u8],
+    n: usize,
+    sheet: &[u8],
+) -> io::Result<()> {
     if s.len() < n {
-        return;
+        return Ok(());
     }
-    buffer_tried(st, &mut s[..n], sheet);
+    buffer_tried(rt, st, &mut s[..n], sheet)
 }
 
 // Tries what the line has from a place on, with a sheet to start from and what writing its station gives; the place
 // after it.
-fn sheet_tried(input: &[u8], at: usize, sheet: &[u8], written: &[u8]) -> usize {
+fn sheet_tried(
+    rt: &impl Print,
+    input: &[u8],
+    at: usize,
+    sheet: &[u8],
+    written: &[u8],
+) -> io::Result<usize> {
     let n = number_at(input, at);
     let read = sheet::read_sheet(sheet);
     let st = read.station;
     let c = with_pairs(input, st, n.next);
     let changed = c.station;
     let mut s = [BEFORE; 2400];
-    part_tried(changed, &mut s, n.value as usize, written);
-    c.next
+    part_tried(rt, changed, &mut s, n.value as usize, written)?;
+    Ok(c.next)
 }
 
 // Tries the station of a base number; the place after the line. Where it names no sheet, no bytes are read, which
 // gives the empty station.
-pub fn tried(input: &[u8], base: u16, at: usize) -> usize {
+pub fn tried(rt: &impl Print, input: &[u8], base: u16, at: usize) -> io::Result<usize> {
     let mut s = [0u8; 2312];
     let mut w = [0u8; 2312];
     bases::put_base(&mut s, base);
     bases::put_base(&mut w, bases::written(base));
     let n = bases::base_length(base);
-    sheet_tried(input, at, first(&s, n), first(&w, n))
+    sheet_tried(rt, input, at, first(&s, n), first(&w, n))
 }

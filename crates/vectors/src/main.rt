@@ -6,12 +6,13 @@
 // big-endian; then the parts. A line: the case's number from 1, and the numbers that its kind prints (stations.rt,
 // messages.rt and journals.rt have the kinds), a space between any two.
 #![tactic(auto)]
+
 mod journals;
 mod messages;
 mod numbers;
 mod stations;
 
-use libc::STDOUT_FILENO;
+use std::io;
 
 // What stands before the parts of a case: its kind, its numbers, and the lengths of the parts.
 #[derive(Clone, Copy)]
@@ -94,17 +95,17 @@ fn put_lines(out: &mut [u8], s: &[u8]) -> usize {
 }
 
 // Prints the first n bytes; of fewer bytes than n nothing.
-fn print_first(s: &[u8], n: usize) {
+fn print_first(rt: &impl Print, s: &[u8], n: usize) -> io::Result<()> {
     if s.len() < n {
-        return;
+        return Ok(());
     }
-    io::write_all(STDOUT_FILENO, &s[0..n]);
+    rt.write_all(&s[0..n])
 }
 
-fn main() {
+fn main(rt: HostRuntime) -> io::Result<()> {
     let mut cases = [0u8; 294912];
     let mut out = [0u8; 65536];
-    let n = files::read_file(b"cases", &mut cases);
+    let n = files::read_file(&rt, b"cases", &mut cases);
     let end = put_lines(&mut out, &cases[..n]);
-    print_first(&out, end);
+    print_first(&rt, &out, end)
 }

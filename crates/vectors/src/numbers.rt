@@ -1,5 +1,5 @@
 // Numbers in the output, the sum that stands for bytes there, and copies of bytes.
-ghost use Rattle.io.specs.Counts.{IsPrefixLen};
+ghost use Rattle.files.specs.Counts.{IsPrefixLen};
 
 // Puts a space and a number; says where the next byte goes.
 pub fn put_number(out: &mut [u8], at: usize, n: u32) -> usize {

@@ -17,15 +17,18 @@
 // 6: the turnout of the work question. Written: the code, and 1 for yes.
 // 7, 8 and 9 are 2, 5 and 6 on the second station, 10, 11 and 12 on the third.
 #![tactic(auto)]
+
 mod hearing;
 mod parts;
 mod questions;
 
 use case_rows::number_at;
 use parts::{ROOM, SHEET};
+use std::io;
 
 // Tries the row that has its kind before a place; the place after it. A kind that is none writes nothing.
 fn row_tried(
+    rt: &impl Print,
     sheet: &[u8],
     second: &[u8],
     third: &[u8],
@@ -34,26 +37,27 @@ fn row_tried(
     input: &[u8],
     kind: u16,
     at: usize,
-) -> usize {
+) -> io::Result<usize> {
     match kind {
-        1 => hearing::fresh_tried(desk, input, at),
-        2 => hearing::record_tried(parts::first(sheet, SHEET), journal, desk, input, at),
-        3 => questions::bytes_tried(desk, input, at),
-        4 => hearing::copy_tried(sheet, journal, desk, input, at),
-        5 => questions::movement_tried(sheet, desk, input, at),
-        6 => questions::work_tried(sheet, desk, input, at),
-        7 => hearing::record_tried(second, journal, desk, input, at),
-        8 => questions::movement_tried(second, desk, input, at),
-        9 => questions::work_tried(second, desk, input, at),
-        10 => hearing::record_tried(third, journal, desk, input, at),
-        11 => questions::movement_tried(third, desk, input, at),
-        12 => questions::work_tried(third, desk, input, at),
-        _ => at,
+        1 => hearing::fresh_tried(rt, desk, input, at),
+        2 => hearing::record_tried(rt, parts::first(sheet, SHEET), journal, desk, input, at),
+        3 => questions::bytes_tried(rt, desk, input, at),
+        4 => hearing::copy_tried(rt, sheet, journal, desk, input, at),
+        5 => questions::movement_tried(rt, sheet, desk, input, at),
+        6 => questions::work_tried(rt, sheet, desk, input, at),
+        7 => hearing::record_tried(rt, second, journal, desk, input, at),
+        8 => questions::movement_tried(rt, second, desk, input, at),
+        9 => questions::work_tried(rt, second, desk, input, at),
+        10 => hearing::record_tried(rt, third, journal, desk, input, at),
+        11 => questions::movement_tried(rt, third, desk, input, at),
+        12 => questions::work_tried(rt, third, desk, input, at),
+        _ => Ok(at),
     }
 }
 
 // Writes the name at a place, and tries what stands after it; the place after that.
 fn named_tried(
+    rt: &impl Print,
     sheet: &[u8],
     second: &[u8],
     third: &[u8],
@@ -61,18 +65,19 @@ fn named_tried(
     desk: &mut [u8],
     input: &[u8],
     at: usize,
-) -> usize {
-    io::write_all(1, case_rows::name(input, at));
+) -> io::Result<usize> {
+    rt.write_all(case_rows::name(input, at))?;
     let kind = number_at(input, case_rows::after_name(input, at));
     let next = row_tried(
-        sheet, second, third, journal, desk, input, kind.value, kind.next,
-    );
-    io::write_all(1, b"\n");
-    case_rows::after(next)
+        rt, sheet, second, third, journal, desk, input, kind.value, kind.next,
+    )?;
+    rt.write_all(b"\n")?;
+    Ok(case_rows::after(next))
 }
 
 // Tries the row at a place, if there is one and it is no remark; the place of the next row.
 fn line_tried(
+    rt: &impl Print,
     sheet: &[u8],
     second: &[u8],
     third: &[u8],
@@ -80,39 +85,54 @@ fn line_tried(
     desk: &mut [u8],
     input: &[u8],
     at: usize,
-) -> usize {
+) -> io::Result<usize> {
     let first = case_rows::byte_at(input, at);
     if first == b'\n' {
-        return at;
+        return Ok(at);
     }
     if first == b'#' {
-        return case_rows::after_line(input, at);
+        return Ok(case_rows::after_line(input, at));
     }
-    named_tried(sheet, second, third, journal, desk, input, at)
+    named_tried(rt, sheet, second, third, journal, desk, input, at)
 }
 
 // Tries every row, at most 1,600.
-fn all_tried(sheet: &[u8], second: &[u8], third: &[u8], journal: &[u8], input: &[u8]) {
+fn all_tried(
+    rt: &impl Print,
+    sheet: &[u8],
+    second: &[u8],
+    third: &[u8],
+    journal: &[u8],
+    input: &[u8],
+) -> io::Result<()> {
     let mut desk = [7u8; ROOM];
     let mut at: usize = 0;
     let mut i: usize = 0;
     while i < 1600 {
-        at = line_tried(sheet, second, third, journal, &mut desk, input, at);
+        at = line_tried(rt, sheet, second, third, journal, &mut desk, input, at)?;
         i += 1;
     }
+    Ok(())
 }
 
 // The sheet's buffer has a byte more than the sheet of station K.
-fn main() {
+fn main(rt: HostRuntime) -> io::Result<()> {
     let mut sheet = [0u8; SHEET + 1];
     let mut second = [0u8; 128];
     let mut third = [0u8; 256];
     let mut journal = [0u8; 1024];
     let mut input = [b'\n'; 65536];
-    files::read_file(b"sheet", &mut sheet);
-    let m = files::read_file(b"second", &mut second);
-    let k = files::read_file(b"third", &mut third);
-    let n = files::read_file(b"journal", &mut journal);
-    io::read_full(0, &mut input);
-    all_tried(&sheet, &second[..m], &third[..k], &journal[..n], &input);
+    files::read_file(&rt, b"sheet", &mut sheet);
+    let m = files::read_file(&rt, b"second", &mut second);
+    let k = files::read_file(&rt, b"third", &mut third);
+    let n = files::read_file(&rt, b"journal", &mut journal);
+    files::read_all(&mut rt.reader(), &mut input);
+    all_tried(
+        &rt,
+        &sheet,
+        &second[..m],
+        &third[..k],
+        &journal[..n],
+        &input,
+    )
 }

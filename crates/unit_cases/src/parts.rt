@@ -1,5 +1,7 @@
 // The lengths of the buffers, copies and parts of bytes, and how a number is written.
 
+use std::io;
+
 // The length of a desk, and of the buffer that holds it.
 pub const DESK: usize = 520;
 
@@ -29,7 +31,6 @@ pub fn first<'a>(s: &'a [u8], n: usize) -> &'a [u8] {
 }
 
 // Writes a space and a number.
-pub fn write_number(n: u64) {
-    io::write_all(1, b" ");
-    io::print_decimal(1, n);
+pub fn write_number(rt: &impl Print, n: u64) -> io::Result<()> {
+    print!(rt; " {n}")
 }

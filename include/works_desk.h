@@ -1,14 +1,15 @@
 /*
  * The turnout works desk, for firmware in C (C99) or C++.
  *
- * Four archives, built by `rt staticlib NAME`:
+ * Four archives, built by `tools/archives NAME`:
  *   libworks_desk_journal.a  levels Halt, Junction and Line: sheets and their copies, records, journals, replaying a
  *                            journal, both questions after one
  *   libworks_desk_unit.a     levels Halt, Junction and Line: a desk of 520 bytes, heard one record at a time, and both
  *                            questions of it
  *   libworks_desk_signals.a  level Line alone: verdicts for works on signals
  *   libworks_desk_panel.a    a cabin panel, a product of its own: reading a sheet within its limits
- * They may be linked together in any mix and order. They need memcpy, allocate nothing and keep nothing between calls.
+ * They may be linked together in any mix and order. They need memcpy and memset, allocate nothing and keep nothing
+ * between calls.
  *
  * For every call:
  *   - No check is needed before it: every function takes any bytes, of any length, and any numbers, and is proved to

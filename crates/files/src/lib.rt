@@ -9,9 +9,9 @@ use std::fs;
 use std::io::Read;
 use std::rt::Files;
 
-// Reads until the reader ends or the buffer is full, and says how many bytes of the buffer are the reader's; 0 if a
-// read fails.
-pub fn read_all<R: Read>(reader: &mut R, buf: &mut [u8]) -> usize
+// Reads an open file until it ends or the buffer is full, and says how many bytes of the buffer are the file's; 0 if
+// a read fails.
+fn read_all<R: Read>(reader: &mut R, buf: &mut [u8]) -> usize
     ensures { IsPrefixLen result buf.new }
 {
     let mut done: usize = 0;

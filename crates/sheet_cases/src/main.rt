@@ -57,6 +57,7 @@ mod writing;
 
 use case_rows::{number_at, put_pairs};
 use std::io;
+use std::io::Read;
 
 // Writes a space and a number.
 fn write_number(rt: &impl Print, n: u64) -> io::Result<()> {
@@ -173,8 +174,22 @@ fn all_tried(rt: &impl Print, input: &[u8]) -> io::Result<()> {
     Ok(())
 }
 
+// Reads the input until it ends, a read fails or the buffer is full; what is past it in the buffer stays as it was.
+fn read_input<R: Read>(reader: &mut R, buf: &mut [u8]) {
+    let mut done: usize = 0;
+    while done < buf.len() {
+        let Ok(n) = reader.read(&mut buf[done..]) else {
+            return;
+        };
+        if n == 0 {
+            return;
+        }
+        done += n;
+    }
+}
+
 fn main(rt: HostRuntime) -> io::Result<()> {
     let mut input = [b'\n'; 65536];
-    files::read_all(&mut rt.reader(), &mut input);
+    read_input(&mut rt.reader(), &mut input);
     all_tried(&rt, &input)
 }

@@ -25,6 +25,7 @@ mod questions;
 use case_rows::number_at;
 use parts::{ROOM, SHEET};
 use std::io;
+use std::io::Read;
 
 // Tries the row that has its kind before a place; the place after it. A kind that is none writes nothing.
 fn row_tried(
@@ -116,6 +117,20 @@ fn all_tried(
 }
 
 // The sheet's buffer has a byte more than the sheet of station K.
+// Reads the input until it ends, a read fails or the buffer is full; what is past it in the buffer stays as it was.
+fn read_input<R: Read>(reader: &mut R, buf: &mut [u8]) {
+    let mut done: usize = 0;
+    while done < buf.len() {
+        let Ok(n) = reader.read(&mut buf[done..]) else {
+            return;
+        };
+        if n == 0 {
+            return;
+        }
+        done += n;
+    }
+}
+
 fn main(rt: HostRuntime) -> io::Result<()> {
     let mut sheet = [0u8; SHEET + 1];
     let mut second = [0u8; 128];
@@ -126,7 +141,7 @@ fn main(rt: HostRuntime) -> io::Result<()> {
     let m = files::read_file(&rt, b"second", &mut second);
     let k = files::read_file(&rt, b"third", &mut third);
     let n = files::read_file(&rt, b"journal", &mut journal);
-    files::read_all(&mut rt.reader(), &mut input);
+    read_input(&mut rt.reader(), &mut input);
     all_tried(
         &rt,
         &sheet,

@@ -1,9 +1,9 @@
 // The unit, UNIT-1 to UNIT-6 (docs/RULES.md): a desk kept in 520 bytes by the caller, for firmware in C or Rust that
 // hears one record at a time. The crate `works_desk_unit_c` hands its four public calls to C. The rules are in
 // specs/Unit.antt, the desk's bytes in the crate `desk_bytes`. Every function takes any bytes and any numbers.
-// proofs/OneByOne.antt has that records heard one by one get what replaying them gives, proofs/Demand3.antt that demand 3
-// holds of them, proofs/Calls.antt that the numbers which the calls return show it, proofs/Separation.antt that a zone's
-// answers go by its own messages alone.
+// proofs/OneByOne.antt has that records heard one by one get what replaying them gives, proofs/Demand3.antt that demand
+// 3 holds of them, proofs/Calls.antt that the numbers which the calls return show it, proofs/Separation.antt that a
+// zone's answers go by its own messages alone.
 #![tactic(auto)]
 
 ghost use Rattle.std.specs.Prelude.{◌≡◌};

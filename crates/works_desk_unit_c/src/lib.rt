@@ -1,5 +1,5 @@
-// The static library of the unit, for firmware in C or Rust: the calls of the crate `works_desk_unit`, each with the same
-// clauses. A byte slice goes as a pointer and a length. tools/archives lays it out as libworks_desk_unit.a.
+// The static library of the unit, for firmware in C or Rust: the calls of the crate `works_desk_unit`, each with the
+// same clauses. A byte slice goes as a pointer and a length. tools/archives lays it out as libworks_desk_unit.a.
 #![tactic(auto)]
 
 ghost use Rattle.std.specs.Prelude.{◌≡◌};

@@ -1,11 +1,28 @@
 -- The count is at most 64 for every station, so it and the counter fit in eight bits.
-use Rattle.std.proofs.Common.{◌≡◌, ℕ, refl, sym, ap, ◌∙◌, add-one, rules, arith}
+use Rattle.std.proofs.Common.{◌≡◌, ◌≤◌, ℕ, refl, sym, ap, ◌∙◌, add-one, rules, arith}
 use mathlib.Core.Path.{ap₂}
 use mathlib.Core.Bool.{not}
 use Rattle.sets.specs.Sets.{has, overlaps}
+use Rattle.station.specs.declared.Station.{Station}
 use Rattle.station.specs.Station.{turnout_count}
 use Rattle.groups.proofs.Numbers.{numbers_of, splits-numbers}
 use Rattle.groups.proofs.splits_group.Goals as goal
+
+-- "a count over its limit is read as the limit", also one of 65 to 255
+at-most-64 : (st : Station) → turnout_count st ≤ 64
+at-most-64 st = omega arith
+
+-- the limit in eight bits
+pub overflow_cast-limit : goal.overflow_cast-limit
+overflow_cast-limit c =
+    let few = at-most-64 c.args.st in
+    omega (arith, few)
+
+-- the next number is at most the limit, so at most 64
+pub overflow_add-i : goal.overflow_add-i
+overflow_add-i c =
+    let few = at-most-64 c.args.st in
+    omega (arith, few)
 
 pub loop-i-init : goal.loop-i-init
 unfolding numbers_of

@@ -15,7 +15,7 @@ use Rattle.signals.proofs.judge.Goals as goal
 ruleset tests = (rules, le-leb, lt-leb)
 
 -- the constant VERDICTS, which the tenth statement of `judge` lends
-unfoldable table : List ℕ
+unfoldable pub table : List ℕ
 table = elements (lent code.s-10 refl)
 
 -- the entry x at place k is the rule's verdict there
@@ -28,7 +28,7 @@ unfolding table right verdict_rule
 all_right = refl
 
 -- the entry at the place of a line, a signal and flags in range is the rule's verdict for them
-entry :
+pub entry :
     {line signal flags : ℕ} → InRange line signal flags →
     get_or table (place line signal flags) 0 ≡ verdict_rule line signal flags
 unfolding table right

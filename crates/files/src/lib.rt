@@ -3,39 +3,39 @@
 // cannot be opened.
 #![tactic(auto)]
 
-ghost use Rattle.files.specs.Counts.{IsPrefixLen};
+ghost use Rattle.std.specs.Prelude.{◌≤◌, length, IfOk};
 
-use std::fs;
 use std::io::Read;
 use std::rt::Files;
+use std::{fs, io};
 
-// Reads an open file until it ends or the buffer is full, and says how many bytes of the buffer are the file's; 0 if
-// a read fails.
-fn read_all<R: Read>(reader: &mut R, buf: &mut [u8]) -> usize
-    ensures { IsPrefixLen result buf.new }
+// Reads an open file until it ends or the buffer is full, and says how many bytes of the buffer are the file's.
+fn read_all<R: Read>(reader: &mut R, buf: &mut [u8]) -> io::Result<usize>
+    ensures { IfOk result (λ n. n ≤ length buf.new) }
 {
     let mut done: usize = 0;
+    // a `while`: a read takes as many bytes as it likes, and std's own loops over it say too little after an error
     while done < buf.len() {
-        let Ok(n) = reader.read(&mut buf[done..]) else {
-            return 0;
-        };
+        let n = reader.read(&mut buf[done..])?;
         if n == 0 {
-            return done;
+            break;
         }
         done += n;
     }
-    done
+    Ok(done)
 }
 
-// Reads the file of that name, as far as the buffer holds it, and says how many bytes of the buffer are the file's.
-pub fn read_file<R: Files>(rt: &R, name: &[u8], buf: &mut [u8]) -> usize
-    ensures { IsPrefixLen result buf.new }
+// Reads the file of that name, as far as the buffer holds it: the part of the buffer, from its start on, that is the
+// file's. No clause can name what a buffer holds that the answer borrows, so its length alone is bounded.
+pub fn read_file<'a, R: Files>(rt: &R, name: &[u8], buf: &'a mut [u8]) -> &'a [u8]
+    ensures { length result.now ≤ length buf.old }
 {
     let Ok(path) = str::from_utf8(name) else {
-        return 0;
+        return &[];
     };
     let Ok(mut file) = fs::open(rt, path) else {
-        return 0;
+        return &[];
     };
-    read_all(&mut file, buf)
+    let n = read_all(&mut file, buf).unwrap_or(0);
+    &buf[..n]
 }

@@ -2,8 +2,11 @@
 -- number put together from two.
 use mathlib.Core.Path.{◌≡◌, refl, sym, ap, ◌∙◌}
 use mathlib.Core.List.{List, [], ◌∷◌, ◌++◌}
-use Prim.Native.Nat.{ℕ, zero, suc, ◌+◌, ◌*◌, ◌/◌, ◌%◌, ◌^◌, ◌<◌}
+use Prim.Native.Nat.{ℕ, zero, suc, ◌+◌, ◌*◌, ◌/◌, ◌%◌, ◌^◌, ◌<◌, ◌≤◌}
 use native.Mathlib.Nat.{zero-add, add_assoc, add_comm, suc-add, mul_assoc, add-mul, zero-mul}
+use native.Mathlib.Nat.{mul-suc, pow-suc, pow-le-pow_right}
+use native.Mathlib.Numerals.{add-one}
+use native.Mathlib.Omega.{arith}
 use native.Mathlib.Nat.{pow-succ', one-le-pow, mod-one, mod-eq_of_lt, div-add-mod'}
 use native.Mathlib.Nat.{div-div-eq-div-mul, mul-add-div_right, mul-add-mod_self_right}
 use lib.Dec.{lit<}
@@ -81,3 +84,18 @@ bytes-add (suc v) w n =
       add_comm v w,
       pow-add 256 w v,
     )
+
+-- a shift by whole bytes
+pub pow-256 : (k : ℕ) → 2 ^ (8 * k) ≡ 256 ^ k
+pow-256 zero = refl
+pow-256 (suc k) = rw (mul-suc 8 k, pow-add 2 (8 * k) 8, pow-256 k) (sym (pow-suc 256 k))
+
+-- one byte more of a number of fewer than eight keeps within its bytes, and within 64 bits
+pub next-lt : (n b i : ℕ) → n < 256 ^ i → b < 256 → n * 256 + b < 256 ^ (i + 1)
+next-lt n b i below byte = rw (add-one i, pow-suc 256 i) (omega arith)
+
+pub next_fits : (n b i : ℕ) → n < 256 ^ i → b < 256 → i < 8 → n * 256 + b < 2 ^ 64
+next_fits n b i below byte few =
+    let seven : i ≤ 7 = omega arith in
+    let most : 256 ^ i ≤ 256 ^ 7 = pow-le-pow_right (lit< tt) seven in
+    omega arith

@@ -3,7 +3,7 @@
 use mathlib.Core.Path.{◌≡◌, refl, sym, ap, ◌∙◌}
 use mathlib.Core.Logic.{◌≢◌}
 use mathlib.Core.List.{List, [], ◌∷◌, ◌++◌, append-nil}
-use Prim.Native.Nat.{ℕ, zero, suc, ◌+◌, ◌*◌, ◌/◌, ◌%◌, ◌^◌, ◌≤◌, ◌<◌}
+use Prim.Native.Nat.{ℕ, zero, suc, ◌+◌, ◌-◌, ◌*◌, ◌/◌, ◌%◌, ◌^◌, ◌≤◌, ◌<◌}
 use native.Mathlib.Nat.{le_refl, le_of_eq, add-zero, zero-add, zero-mul, add_assoc, suc-add}
 use native.Mathlib.Nat.{add-suc}
 use native.Mathlib.Numerals.{add-one, one-add}
@@ -11,9 +11,9 @@ use native.Mathlib.Omega.{arith}
 use lib.Dec.{lit<}
 use lib.ListN.{length, get_or, set, drop, length-set, get_or-eq_default}
 use lib.Seq.{sets, sets-eq, drop-length, set_out, set-get_or, get_or-set_same, get_or-set_other}
-use Rattle.bigendian.specs.BigEndian.{Bytes, be_value, be_bytes, bytes_at, number_at, stored_at}
+use Rattle.bigendian.specs.BigEndian.{Bytes, be_value, be_bytes, byte_at, with_byte, bytes_at, number_at, stored_at}
 use Rattle.bigendian.proofs.Numbers.{length-be_bytes, value-append, value-bytes, bytes-value}
-use Rattle.bigendian.proofs.Numbers.{bytes-add, bytes-mod, value-lt}
+use Rattle.bigendian.proofs.Numbers.{bytes-add, bytes-mod, value-lt, pow-256}
 
 pub length-bytes_at : (s : List ℕ) (at w : ℕ) → length (bytes_at s at w) ≡ w
 length-bytes_at s at zero = refl
@@ -154,3 +154,18 @@ sets-bytes_at (suc w) s at =
 -- read, then write: the same buffer
 pub stored-number : (w : ℕ) (s : List ℕ) (at : ℕ) → Bytes s → stored_at w s at (number_at w s at) ≡ s
 stored-number w s at byte = rw (bytes-number w s at byte) (sets-bytes_at w s at)
+
+-- one byte more: it stands below those before it
+pub number-next :
+    (i : ℕ) (s : List ℕ) (at : ℕ) → number_at (i + 1) s at ≡ number_at i s at * 256 + byte_at s (at + i)
+number-next i s at = number-add i 1 s at ∙ omega arith
+
+-- the top byte of those that are left is stored, then the rest
+pub stored-next :
+    (above i w : ℕ) (s : List ℕ) (at n : ℕ) → above ≡ w - 1 - i → i < w →
+    stored_at (w - (i + 1)) (with_byte s (at + i) (n / 2 ^ (8 * above) % 256)) (at + (i + 1)) n
+    ≡ stored_at (w - i) s (at + i) n
+stored-next above i w s at n here below =
+    let left : w - i ≡ suc above = omega arith in
+    let rest : w - (i + 1) ≡ above = omega arith in
+    rw (left, rest, pow-256 above, add-one i, add-suc at i)

@@ -3,54 +3,151 @@
 // proofs/.
 #![tactic(auto)]
 
-ghost use Rattle.std.specs.Prelude.{◌≡◌};
+ghost use Rattle.std.specs.Prelude.{◌≡◌, ◌≤◌, ◌<◌, ◌%◌, ◌^◌, ℕ, List, refl};
 ghost use Rattle.bigendian.specs.BigEndian.{byte_at, with_byte, number_at, stored_at};
+ghost use Rattle.std.proofs.Common.{rules};
+
+// A number type that is kept in whole bytes.
+pub trait Number: Copy {
+    // What number a value is; what it is to read one at a place of a buffer, and to store one there.
+    ghost value: { Self → ℕ };
+
+    ghost at_place: { List ℕ → ℕ → ℕ };
+
+    ghost with_number: { List ℕ → ℕ → ℕ → List ℕ };
+
+    const BYTES: usize;
+
+    ghost BYTES: { ℕ };
+
+    // The low bytes of a wider number.
+    fn low(n: u64) -> Self
+        ensures { value result ≡ n % 256 ^ BYTES };
+
+    fn wide(self) -> u64
+        ensures value { result ≡ value self }
+        ensures upper_bound { result < 256 ^ BYTES };
+
+    ghost narrow: { BYTES ≤ 8 };
+
+    ghost reads: { (s : List ℕ) (at : ℕ) → at_place s at ≡ number_at BYTES s at };
+
+    ghost stores: { (s : List ℕ) (at n : ℕ) → n < 256 ^ BYTES → with_number s at n ≡ stored_at BYTES s at n };
+}
+
+impl Number for u8 {
+    ghost value = { λ n. n };
+
+    ghost at_place = { byte_at };
+
+    ghost with_number = { with_byte };
+
+    const BYTES: usize = 1;
+
+    ghost BYTES = { 1 };
+
+    fn low(n: u64) -> u8 {
+        (n % 256) as u8
+    }
+
+    fn wide(self) -> u64 {
+        u64::from(self)
+    }
+
+    ghost narrow = { Prim.search rules };
+
+    ghost reads = { Prim.search rules };
+
+    ghost stores = { Prim.search rules };
+}
+
+impl Number for u16 {
+    ghost value = { λ n. n };
+
+    ghost at_place = { number_at 2 };
+
+    ghost with_number = { stored_at 2 };
+
+    const BYTES: usize = 2;
+
+    ghost BYTES = { 2 };
+
+    fn low(n: u64) -> u16 {
+        (n % 65536) as u16
+    }
+
+    fn wide(self) -> u64 {
+        u64::from(self)
+    }
+
+    ghost narrow = { Prim.search rules };
+
+    ghost reads = { λ s at. refl };
+
+    ghost stores = { λ s at n below. refl };
+}
+
+impl Number for u32 {
+    ghost value = { λ n. n };
+
+    ghost at_place = { number_at 4 };
+
+    ghost with_number = { stored_at 4 };
+
+    const BYTES: usize = 4;
+
+    ghost BYTES = { 4 };
+
+    fn low(n: u64) -> u32 {
+        (n % 4294967296) as u32
+    }
+
+    fn wide(self) -> u64 {
+        u64::from(self)
+    }
+
+    ghost narrow = { Prim.search rules };
+
+    ghost reads = { λ s at. refl };
+
+    ghost stores = { λ s at n below. refl };
+}
+
+impl Number for u64 {
+    ghost value = { λ n. n };
+
+    ghost at_place = { number_at 8 };
+
+    ghost with_number = { stored_at 8 };
+
+    const BYTES: usize = 8;
+
+    ghost BYTES = { 8 };
+
+    fn low(n: u64) -> u64 {
+        n
+    }
+
+    fn wide(self) -> u64 {
+        self
+    }
+
+    ghost narrow = { Prim.search rules };
+
+    ghost reads = { λ s at. refl };
+
+    ghost stores = { λ s at n below. refl };
+}
 
 // The byte at an index; 0 past the end.
-pub fn get8(s: &[u8], at: usize) -> u8
+fn byte_of(s: &[u8], at: usize) -> u8
     ensures { result ≡ byte_at s.now at }
 {
-    if at < s.len() {
-        return s[at];
-    }
-    0
-}
-
-pub fn get16(s: &[u8], at: usize) -> u16
-    ensures { result ≡ number_at 2 s.now at }
-{
-    if s.len() <= at {
-        return 0;
-    }
-    let high = get8(s, at);
-    let low = get8(s, at + 1);
-    (high as u16) * 256 + (low as u16)
-}
-
-pub fn get32(s: &[u8], at: usize) -> u32
-    ensures { result ≡ number_at 4 s.now at }
-{
-    if s.len() <= at {
-        return 0;
-    }
-    let high = get16(s, at);
-    let low = get16(s, at + 2);
-    (high as u32) * 65536 + (low as u32)
-}
-
-pub fn get64(s: &[u8], at: usize) -> u64
-    ensures { result ≡ number_at 8 s.now at }
-{
-    if s.len() <= at {
-        return 0;
-    }
-    let high = get32(s, at);
-    let low = get32(s, at + 4);
-    (high as u64) * 4294967296 + (low as u64)
+    s.get(at).copied().unwrap_or(0)
 }
 
 // Stores a byte at an index; past the end nothing is stored.
-pub fn put8(s: &mut [u8], at: usize, n: u8)
+fn put_byte(s: &mut [u8], at: usize, n: u8)
     ensures { s.new ≡ with_byte s.old at n }
 {
     if at < s.len() {
@@ -58,32 +155,79 @@ pub fn put8(s: &mut [u8], at: usize, n: u8)
     }
 }
 
-pub fn put16(s: &mut [u8], at: usize, n: u16)
-    ensures { s.new ≡ stored_at 2 s.old at n }
+// The number at a place of a buffer.
+pub fn get<N: Number>(s: &[u8], at: usize) -> N
+    ensures { N.value result ≡ N.at_place s.now at }
 {
+    if s.len() <= at {
+        return N::low(0);
+    }
+    let mut n: u64 = 0;
+    for i in 0..N::BYTES {
+        n = n * 256 + u64::from(byte_of(s, at + i));
+    }
+    N::low(n)
+}
+
+// Stores a number at a place of a buffer.
+pub fn put<N: Number>(s: &mut [u8], at: usize, n: N)
+    ensures { s.new ≡ N.with_number s.old at (N.value n) }
+{
+    let wide = n.wide();
     if s.len() <= at {
         return;
     }
-    put8(s, at, (n / 256) as u8);
-    put8(s, at + 1, (n % 256) as u8);
+    for i in 0..N::BYTES {
+        let above = N::BYTES - 1 - i;
+        put_byte(s, at + i, ((wide >> (8 * above)) % 256) as u8);
+    }
+}
+
+// The same at each type, for callers that have not moved.
+pub fn get8(s: &[u8], at: usize) -> u8
+    ensures { result ≡ byte_at s.now at }
+{
+    get(s, at)
+}
+
+pub fn get16(s: &[u8], at: usize) -> u16
+    ensures { result ≡ number_at 2 s.now at }
+{
+    get(s, at)
+}
+
+pub fn get32(s: &[u8], at: usize) -> u32
+    ensures { result ≡ number_at 4 s.now at }
+{
+    get(s, at)
+}
+
+pub fn get64(s: &[u8], at: usize) -> u64
+    ensures { result ≡ number_at 8 s.now at }
+{
+    get(s, at)
+}
+
+pub fn put8(s: &mut [u8], at: usize, n: u8)
+    ensures { s.new ≡ with_byte s.old at n }
+{
+    put(s, at, n);
+}
+
+pub fn put16(s: &mut [u8], at: usize, n: u16)
+    ensures { s.new ≡ stored_at 2 s.old at n }
+{
+    put(s, at, n);
 }
 
 pub fn put32(s: &mut [u8], at: usize, n: u32)
     ensures { s.new ≡ stored_at 4 s.old at n }
 {
-    if s.len() <= at {
-        return;
-    }
-    put16(s, at, (n / 65536) as u16);
-    put16(s, at + 2, (n % 65536) as u16);
+    put(s, at, n);
 }
 
 pub fn put64(s: &mut [u8], at: usize, n: u64)
     ensures { s.new ≡ stored_at 8 s.old at n }
 {
-    if s.len() <= at {
-        return;
-    }
-    put32(s, at, (n / 4294967296) as u32);
-    put32(s, at + 4, (n % 4294967296) as u32);
+    put(s, at, n);
 }

@@ -6,7 +6,12 @@ use Prim.Native.Nat.{ℕ, zero, suc, ◌+◌, ◌-◌, ◌/◌, ◌%◌, ◌^◌
 use native.Mathlib.Nat.{sub_self, pow-suc}
 use native.Mathlib.Omega.{arith}
 use lib.Dec.{ltb}
-use lib.ListN.{length, length-set}
+use lib.ListN.{length, get_or, drop, length-set}
+use lib.Seq.{drop-cons}
+use Rattle.std.proofs.Common.{add-one}
+use Rattle.std.proofs.lemmas.List.{drop_all}
+use Rattle.std.proofs.lemmas.Fmt.{decimal_by_steps}
+use Rattle.std.specs.Fmt.{decimal as printed}
 use borrow.Author.Tests.{ltb-true, lt-ltb, le-ltb}
 use Rattle.report.specs.Answers.{code_in, minutes_in}
 use Rattle.report.specs.Text.{Filled, digits, decimal, line_of, lines_from, put_byte, put_all}
@@ -42,6 +47,23 @@ pub byte_last :
 unfolding put_all
 byte_last s at xs b e f = sym (byte-after s at xs b [] e f)
 
+-- what is left of bytes from index i on, once byte i is put
+pub rest_next :
+    (s : List ℕ) (at : ℕ) (bs : List ℕ) (i : ℕ) {next : Filled} → i < length bs →
+    next ≡ put_byte s at (get_or bs i 0) →
+    put_all s at (drop i bs) ≡ put_all next.bytes next.place (drop (i + 1) bs)
+unfolding put_all
+rest_next s at bs i below e =
+    rw (add-one, drop-cons bs i 0 below)
+    (sym (ap (λ (f : Filled). put_all f.bytes f.place (drop (suc i) bs)) e))
+
+-- past the last byte nothing is left
+pub rest_end :
+    (s : List ℕ) (at : ℕ) (bs : List ℕ) (i : ℕ) → length bs ≤ i →
+    put_all s at (drop i bs) ≡ record { place = at; bytes = s }
+unfolding put_all
+rest_end s at bs i ended = rw (drop_all i bs ended)
+
 -- put at a place within the buffer, a byte, and so any bytes, leave the next place within it
 byte-within :
     (s : List ℕ) (at b : ℕ) → at ≤ length s →
@@ -70,18 +92,31 @@ digits-enough (suc k) n small =
     ap (λ (l : List ℕ). cond (ltb n 10) ((48 + n) ∷ []) (l ++ ((48 + n % 10) ∷ [])))
     (digits-enough k (n / 10) next)
 
-pub decimal-small : (n : ℕ) → n < 10 → decimal n ≡ (48 + n) ∷ []
+decimal-small : (n : ℕ) → n < 10 → decimal n ≡ (48 + n) ∷ []
 unfolding decimal digits
 decimal-small n small = rw (lt-ltb n 10 small)
 
 -- the digits of a number of 32 bits are those of its tenth and its last
-pub decimal-next :
+decimal-next :
     (n : ℕ) → 10 ≤ n → n < 2 ^ 32 → decimal n ≡ decimal (n / 10) ++ ((48 + n % 10) ∷ [])
 unfolding decimal digits
 decimal-next n large fits =
     let tenth : n / 10 < 10 ^ 9 = omega arith in
     rw (le-ltb n 10 large)
     (ap (λ (l : List ℕ). l ++ ((48 + n % 10) ∷ [])) (sym (digits-enough 8 (n / 10) tenth)))
+
+-- what the library prints of a number of 32 bits are these digits
+pub decimal-printed : (n : ℕ) → n < 2 ^ 32 → printed n ≡ decimal n
+decimal-printed n fits =
+    let large : n < 2 ^ 64 = omega arith in
+    decimal_by_steps Same (λ k small in-range. sym (decimal-small k small))
+    (λ k ds big rest in-range.
+    let tenth : k / 10 < 2 ^ 32 = omega arith in
+    ap (λ (l : List ℕ). l ++ ((48 + k % 10) ∷ [])) (rest tenth) ∙ sym (decimal-next k big in-range))
+    n large fits
+  where
+    Same : ℕ → List ℕ → Type 0
+    Same k ds = k < 2 ^ 32 → ds ≡ decimal k
 
 pub lines_next :
     (s : List ℕ) (i n : ℕ) → i < n →

@@ -6,7 +6,11 @@
 
 ghost use Rattle.std.specs.Prelude.{◌≡◌};
 ghost use Rattle.report.specs.Answers.{with_answer};
-ghost use Rattle.report.specs.Text.{decimal, line_of, text_of, put_byte, put_all};
+ghost use Rattle.report.specs.Text.{decimal, text_of, put_byte, put_all};
+
+use writing::Text;
+
+mod writing;
 
 // The length of an answer in bytes.
 pub const ANSWER: usize = 5;
@@ -22,39 +26,21 @@ pub fn put_answer(s: &mut [u8], n: u32, code: u8, minutes: u32)
 }
 
 // Puts a byte at a place, and says where the next one goes; past the end nothing is stored.
-#[tactic(auto, unfolding(crate::specs::Text::put_byte))]
 pub fn put_byte(out: &mut [u8], at: usize, b: u8) -> usize
     ensures { record { place = result; bytes = out.new } ≡ put_byte out.old at b }
 {
-    if at < out.len() {
-        out[at] = b;
-        return at + 1;
-    }
-    at
+    let mut text = Text { out, at };
+    text.put_byte(b);
+    text.at
 }
 
 // Puts a number in decimal digits at a place, and says where the next byte goes.
 pub fn put_decimal(out: &mut [u8], at: usize, n: u32) -> usize
     ensures { record { place = result; bytes = out.new } ≡ put_all out.old at (decimal n) }
 {
-    if n < 10 {
-        return put_byte(out, at, 48 + n as u8);
-    }
-    let next = put_decimal(out, at, n / 10);
-    put_byte(out, next, 48 + (n % 10) as u8)
-}
-
-// Puts one line: three numbers (PROGRAM-1).
-fn put_line(out: &mut [u8], at: usize, n: u32, code: u8, minutes: u32) -> usize
-    ensures { record { place = result; bytes = out.new }
-        ≡ put_all out.old at (line_of n code minutes) }
-{
-    let a = put_decimal(out, at, n);
-    let b = put_byte(out, a, b' ');
-    let c = put_decimal(out, b, code as u32);
-    let d = put_byte(out, c, b' ');
-    let e = put_decimal(out, d, minutes);
-    put_byte(out, e, b'\n')
+    let mut text = Text { out, at };
+    text.put_decimal(n);
+    text.at
 }
 
 // The text of a list of answers: a line for each, its number from 1, its code, its minutes; of a refusal its number on
@@ -63,22 +49,7 @@ pub fn text(code: u8, answers: &[u8], count: u32, out: &mut [u8]) -> usize
     ensures { record { place = result; bytes = out.new }
         ≡ put_all out.old 0 (text_of code answers.now count) }
 {
-    if code != 0 {
-        let end = put_decimal(out, 0, code as u32);
-        return put_byte(out, end, b'\n');
-    }
-    let mut at: usize = 0;
-    let mut i: u32 = 0;
-    while i < count {
-        let place = ANSWER * (i as usize);
-        at = put_line(
-            out,
-            at,
-            i + 1,
-            bigendian::get8(answers, place),
-            bigendian::get32(answers, place + 1),
-        );
-        i += 1;
-    }
-    at
+    let mut text = Text { out, at: 0 };
+    text.put_text(code, answers, count);
+    text.at
 }

@@ -1,3 +1,4 @@
 pub mod Joined
+pub mod Refused
 pub mod Header
 pub mod Counts

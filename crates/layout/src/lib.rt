@@ -3,7 +3,7 @@
 // station.
 #![tactic(auto)]
 
-ghost use Rattle.std.specs.Prelude.{◌≡◌, ◌<◌};
+ghost use Rattle.std.specs.Prelude.{◌≡◌, ℕ};
 ghost use Rattle.layout.specs.Layout.{
   has_mark,
   version,
@@ -20,23 +20,22 @@ ghost use Rattle.layout.specs.Layout.{
   route_place,
   station_in,
 };
+ghost use Rattle.refusals.specs.Numbers.{code_of};
 ghost use Rattle.sets.specs.Table.{places};
 ghost use Rattle.station.specs.Station.{empty_turnout, empty_route};
 
-use station::observe::{at_most_64, no_turnouts};
-use station::{Route, Station, Turnout, first_code};
-
-// The numbers that refuse a sheet by its header or its length.
-pub const BAD_LENGTH: u8 = 1;
-
-pub const BAD_MARK: u8 = 2;
-
-pub const BAD_VERSION: u8 = 3;
-
-pub const BAD_COUNTS: u8 = 4;
+use refusals::{Refusal, refuse_if};
+use station::{Route, Station, Turnout};
 
 // The length of the header.
-const HEADER: usize = 8;
+const HEADER: u16 = 8;
+
+// A record that is 0.
+const NO_TURNOUT: Turnout = Turnout {
+    zone: 0,
+    group: 0,
+    drive: 0,
+};
 
 // The letters SPT.
 fn has_mark(s: &[u8]) -> bool
@@ -79,51 +78,45 @@ pub fn version_of(s: &[u8]) -> u16
 pub fn sheet_length(p: u8, r: u8) -> usize
     ensures { result ≡ sheet_length p r }
 {
-    HEADER + 3 * (p as usize) + 33 * (r as usize)
+    HEADER as usize + 3 * (p as usize) + 33 * (r as usize)
 }
 
-// The first number of 1, 2, 3, 4 that fits, by the checks before that of the length; else the one that is given
-// (SHEET-11).
-pub fn before_length(s: &[u8], later: u8) -> u8
-    ensures { result ≡ before_length s.now later }
+// The checks before that of the length: length under 8, mark, version, counts (SHEET-11).
+pub fn before_length(s: &[u8]) -> Result<(), Refusal>
+    ensures { code_of result ≡ before_length s.now 0 }
 {
-    let counts = first_code(
-        !counts_kept(
-            bigendian::get8(s, 5),
-            bigendian::get8(s, 6),
-            bigendian::get8(s, 7),
-        ),
-        BAD_COUNTS,
-        later,
+    let counts = counts_kept(
+        bigendian::get8(s, 5),
+        bigendian::get8(s, 6),
+        bigendian::get8(s, 7),
     );
-    let version = first_code(!version_kept(version_of(s)), BAD_VERSION, counts);
-    let mark = first_code(!has_mark(s), BAD_MARK, version);
-    first_code(s.len() < HEADER, BAD_LENGTH, mark)
+    refuse_if(s.len() < HEADER as usize, Refusal::BadLength)?;
+    refuse_if(!has_mark(s), Refusal::BadMark)?;
+    refuse_if(!version_kept(version_of(s)), Refusal::BadVersion)?;
+    refuse_if(!counts, Refusal::BadCounts)
 }
 
-// 0 if there are as many bytes as the counts ask for, else 1 (SHEET-10).
-pub fn length_code(s: &[u8]) -> u8
-    ensures { result ≡ length_number s.now }
+// Whether there are as many bytes as the counts ask for (SHEET-10).
+pub fn check_length(s: &[u8]) -> Result<(), Refusal>
+    ensures { code_of result ≡ length_number s.now }
 {
-    first_code(
-        s.len() != sheet_length(bigendian::get8(s, 5), bigendian::get8(s, 6)),
-        BAD_LENGTH,
-        0,
-    )
+    let length = sheet_length(bigendian::get8(s, 5), bigendian::get8(s, 6));
+    refuse_if(s.len() != length, Refusal::BadLength)
 }
 
-// 0 if the header and the length are good, else the first number of 1, 2, 3, 4, 1 that fits (SHEET-11).
-#[tactic(auto, unfolding(crate::specs::Layout::header_number))]
-pub fn header_code(s: &[u8]) -> u8
-    ensures { result ≡ header_number s.now }
+// The checks of the header and of the length, in the desk's order (SHEET-11).
+#[tactic(auto, using(crate::proofs::Refused::header_order), unfolding(crate::specs::Layout::header_number))]
+pub fn check_header(s: &[u8]) -> Result<(), Refusal>
+    ensures { code_of result ≡ header_number s.now }
 {
-    before_length(s, length_code(s))
+    before_length(s)?;
+    check_length(s)
 }
 
-fn turnout_in(s: &[u8], at: usize) -> Turnout
-    requires { at < 4096 }
+fn turnout_in(s: &[u8], at: u16) -> Turnout
     ensures { result ≡ turnout_in s.now at }
 {
+    let at = at as usize;
     Turnout {
         zone: bigendian::get8(s, at),
         group: bigendian::get8(s, at + 1),
@@ -131,10 +124,10 @@ fn turnout_in(s: &[u8], at: usize) -> Turnout
     }
 }
 
-fn route_in(s: &[u8], at: usize) -> Route
-    requires { at < 4096 }
+fn route_in(s: &[u8], at: u16) -> Route
     ensures { result ≡ route_in s.now at }
 {
+    let at = at as usize;
     Route {
         zone: bigendian::get8(s, at),
         over: bigendian::get64(s, at + 1),
@@ -144,48 +137,35 @@ fn route_in(s: &[u8], at: usize) -> Route
     }
 }
 
-// The turnout records, those from p on 0 (SHEET-2, SHEET-12).
-fn turnouts_in(s: &[u8], p: u8) -> [Turnout; 64]
-    ensures { result ≡ places (λ i. turnout_in s.now (turnout_place i)) p empty_turnout }
+// 64 records: at each place below n the one that `at` gives for it, at the others `empty` (SHEET-12).
+fn table<T: Copy, F: Fn(u8) -> T>(n: u8, empty: T, at: F) -> [T; 64]
+    requires { F.IsAlwaysCallable at }
+    ensures { (f : ℕ → T) → ((i : ℕ) (x : T) → F.post at i x → x ≡ f i) → result ≡ places f n empty }
 {
-    let n = at_most_64(p);
-    let mut ts = no_turnouts();
-    let mut i: usize = 0;
-    while i < n {
-        ts[i] = turnout_in(s, HEADER + 3 * i);
-        i += 1;
+    let mut records = [empty; 64];
+    for i in 0..n.min(64) {
+        records[i as usize] = at(i);
     }
-    ts
+    records
 }
 
-// The route records, those from r on 0 (SHEET-4, SHEET-12).
-fn routes_in(s: &[u8], p: u8, r: u8) -> [Route; 64]
-    ensures { result ≡ places (λ i. route_in s.now (route_place p i)) r empty_route }
-{
-    let first = HEADER + 3 * (p as usize);
-    let n = at_most_64(r);
-    let none = station::route_none();
-    let mut rs = [none; station::ROUTES];
-    let mut i: usize = 0;
-    while i < n {
-        rs[i] = route_in(s, first + 33 * i);
-        i += 1;
-    }
-    rs
-}
-
-// The station that stands in the bytes.
+// The station that stands in the bytes (SHEET-2, SHEET-4).
 #[tactic(auto, unfolding(crate::specs::Layout::station_in))]
 pub fn station_in(s: &[u8]) -> Station
     ensures { result ≡ station_in s.now }
 {
     let p = bigendian::get8(s, 5);
     let r = bigendian::get8(s, 6);
+    let first = HEADER + 3 * (p as u16);
     Station {
         turnouts: p,
         routes: r,
         zones: bigendian::get8(s, 7),
-        turnout: turnouts_in(s, p),
-        route: routes_in(s, p, r),
+        turnout: table(p, NO_TURNOUT, |i| turnout_in(s, HEADER + 3 * (i as u16))),
+        route: table(
+            r,
+            station::route_none(),
+            |i| route_in(s, first + 33 * (i as u16)),
+        ),
     }
 }

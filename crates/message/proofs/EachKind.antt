@@ -4,6 +4,9 @@ use mathlib.Core.List.{List, [], ◌∷◌}
 use mathlib.Core.Path.{◌≡◌}
 use Prim.Native.Nat.{ℕ, zero, suc, ◌≤◌}
 use native.Mathlib.Omega.{arith}
+use mathlib.Core.Bool.{false}
+use Rattle.std.proofs.lemmas.Bool.Decides.{nat_tests}
+use Rattle.message.specs.Fields.{is_kind}
 
 -- P at each number below n
 abbrev pub EachBelow : ℕ → (ℕ → Type 0) → Type 0
@@ -27,6 +30,12 @@ EachKind P = EachBelow 14 P
 
 pub each-kind : (P : ℕ → Type 0) → EachKind P → ((k : ℕ) → 14 ≤ k → P k) → (k : ℕ) → P k
 each-kind P = each_below 14 P
+
+-- what holds at 0, and from 14 on, holds at every number that is no kind's
+pub no-kind :
+    (P : ℕ → Type 0) → P 0 → ((k : ℕ) → 14 ≤ k → P k) → (k : ℕ) → is_kind k ≡ false → P k
+no-kind P none past zero e = none
+no-kind P none past (suc k) e = past (suc k) (grind (arith, nat_tests))
 
 -- k is none of the given numbers; a match's last arm has this of the arms before it, the last of
 -- them first

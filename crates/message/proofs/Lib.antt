@@ -1,3 +1,3 @@
 pub mod EachKind
-pub mod Named
+pub mod Numbers
 pub mod RoundTrips

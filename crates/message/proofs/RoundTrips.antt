@@ -10,10 +10,12 @@ use native.Mathlib.Nat.{mod-eq_of_lt}
 use native.Mathlib.Omega.{arith}
 use lib.Dec.{eqb}
 use lib.ListN.{length, get_or}
+use lib.Seq.{sets}
 use borrow.Author.Tests.{eq-eqb, eqb-true}
 use Rattle.bigendian.proofs.Numbers.{value-bytes}
-use Rattle.bigendian.proofs.Places.{bytes_at-all, bytes-number}
+use Rattle.bigendian.proofs.Places.{bytes_at-all, bytes-number, sets-whole}
 use Rattle.bigendian.specs.BigEndian.{Bytes, bytes_at}
+use Rattle.message.proofs.Numbers.{not_zero}
 use Rattle.message.specs.declared.Message.{Message}
 use Rattle.message.specs.Fields.{details, field_number}
 use Rattle.message.specs.Record.{decoded, encoded, head_bytes, empty_message, ReadAnswer}
@@ -127,6 +129,13 @@ read-then-written s byte code buffer room =
 pub length-encoded : (m : Message) → length (encoded m) ≡ 32
 unfolding encoded head_bytes
 length-encoded m = refl
+
+-- the stores of a record cover a buffer of its length
+pub stored_whole : (m : Message) (s : List ℕ) → length s ≡ 32 → sets s 0 (encoded m) ≡ encoded m
+stored_whole m s room = sets-whole s (encoded m) (length-encoded m ∙ sym room)
+
+-- what writing a record lacks
+pub ruleset writing = (not_zero, stored_whole)
 
 -- a message that keeps the field rules, written and read again, gives the same message
 pub written-then-read :

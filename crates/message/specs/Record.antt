@@ -1,10 +1,10 @@
 -- The 32-byte record of a message, reading and writing: RECORD-1, RECORD-4 and RECORD-5
 -- (docs/RULES.md).
-use Rattle.std.specs.Prelude.{cond, List, ◌∷◌, ◌++◌, ℕ, eqb, get_or, length}
+use Rattle.std.specs.Prelude.{cond, List, ◌∷◌, ◌++◌, ℕ, eqb, get_or, length, Result, Ok, Err}
 use Rattle.bigendian.specs.BigEndian.{number_at, be_bytes}
+use Rattle.refusals.specs.declared.Refusal.{Refusal}
+use Rattle.refusals.specs.Numbers.{number_of}
 use Rattle.message.specs.declared.Message.{Message}
-use Rattle.message.specs.declared.Reading.{Reading}
-use Rattle.message.specs.declared.Reading.TheVariants.{Accepted, Refused}
 use Rattle.message.specs.Fields.{details, field_number}
 
 -- RECORD-1: "Kind (1 byte), zone (1), time in seconds (4), id (4), sets a and b (8 each), details
@@ -62,10 +62,10 @@ accepted m = record { code = 0; message = m }
 abbrev pub refused : ℕ → ReadAnswer
 refused number = record { code = number; message = empty_message }
 
--- FORM-9: the rule's number and values for each case of the reader's enum
-abbrev pub reading_of : Reading → ReadAnswer
-reading_of (Accepted m) = accepted m
-reading_of (Refused number) = refused number
+-- FORM-9: the rule's number and values for each case of the reader's answer
+abbrev pub reading_of : Result Message Refusal → ReadAnswer
+reading_of (Ok m) = accepted m
+reading_of (Err e) = refused (number_of e)
 
 -- RECORD-4, HEAR-1: "A record is first read into a message, or refused (10, 11, 13, in that order)"
 unfoldable pub read_record : List ℕ → ReadAnswer

@@ -13,8 +13,9 @@ ghost use Rattle.message.specs.Fields.{
   named_kept,
   fields_kept,
 };
+ghost use Rattle.message.specs.Kind.{kind_number};
 
-use super::{Message, RECORDER};
+use super::{Kind, Message};
 
 // Whether a detail is from least to most.
 fn in_span(d: u8, least: u8, most: u8) -> bool
@@ -77,36 +78,40 @@ fn no_sets(m: Message) -> bool
 }
 
 // Whether the sets and details that the kind names are as it wants them, and all others 0 (RECORD-3).
-fn named_kept(m: Message) -> bool
-    ensures { result ≡ named_kept (named m.kind) m }
+#[tactic(auto, unfolding(crate::specs::Fields::named))]
+fn named_kept(kind: Kind, m: Message) -> bool
+    ensures { result ≡ named_kept (named (kind_number kind)) m }
 {
-    let kind = m.kind;
     match kind {
-        super::WORK_ASKED => (m.b == 0) & first_detail(m, 1, 2),
-        super::DETECTION_OFF => no_details(m),
-        super::MOVEMENT_ASKED => no_sets(m) & first_detail(m, 0, 63),
-        super::CLEARANCE => no_sets(m) & clearance_details(m),
-        super::ORDERED => no_sets(m) & first_detail(m, 1, 2),
-        super::PART_RESTORED => (m.b == 0) & no_details(m),
-        super::RECORDER => no_sets(m) & first_detail(m, 0, 1),
-        super::KEY_USED => no_sets(m) & key_details(m),
-        _ => no_sets(m) & no_details(m),
+        Kind::WorkAsked => (m.b == 0) & first_detail(m, 1, 2),
+        Kind::DetectionOff => no_details(m),
+        Kind::MovementAsked => no_sets(m) & first_detail(m, 0, 63),
+        Kind::Clearance => no_sets(m) & clearance_details(m),
+        Kind::Ordered => no_sets(m) & first_detail(m, 1, 2),
+        Kind::PartRestored => (m.b == 0) & no_details(m),
+        Kind::Recorder => no_sets(m) & first_detail(m, 0, 1),
+        Kind::KeyUsed => no_sets(m) & key_details(m),
+        Kind::Agreed | Kind::Withdrawn | Kind::Passed | Kind::Cancelled | Kind::AllRestored => {
+            no_sets(m) & no_details(m)
+        }
     }
 }
 
 // Whether the id is 0 for the recorder, and not 0 for every other kind (RECORD-2).
-fn id_kept(kind: u8, id: u32) -> bool
-    ensures { result ≡ id_kept kind id }
+fn id_kept(kind: Kind, id: u32) -> bool
+    ensures { result ≡ id_kept (kind_number kind) id }
 {
-    if kind == RECORDER {
+    if kind == Kind::Recorder {
         return id == 0;
     }
     id != 0
 }
 
 // Whether every field keeps the rule of the message's kind.
-pub fn fields_kept(m: Message) -> bool
+#[tactic(auto, unfolding(crate::specs::Fields::fields_kept))]
+pub fn fields_kept(kind: Kind, m: Message) -> bool
+    requires { kind_number kind ≡ m.kind }
     ensures { result ≡ fields_kept m }
 {
-    id_kept(m.kind, m.id) & named_kept(m)
+    id_kept(kind, m.id) & named_kept(kind, m)
 }

@@ -7,6 +7,7 @@ ghost use Rattle.message.specs.Record.{decoded, head_bytes, encoded};
 use super::Message;
 
 // The message that stands in the bytes, whatever they are.
+#[tactic(auto, unfolding(crate::specs::Record::decoded))]
 pub fn decode(s: &[u8]) -> Message
     ensures { result ≡ decoded s.now }
 {
@@ -27,6 +28,7 @@ pub fn decode(s: &[u8]) -> Message
 }
 
 // Stores all but the details.
+#[tactic(auto, unfolding(crate::specs::Record::head_bytes))]
 fn put_head(m: Message, s: &mut [u8])
     ensures { s.new ≡ sets s.old 0 (head_bytes m) }
 {
@@ -50,6 +52,7 @@ fn put_details(m: Message, s: &mut [u8])
 }
 
 // Stores the record of a message at the start of the bytes.
+#[tactic(auto, unfolding(crate::specs::Record::encoded, crate::specs::Record::head_bytes))]
 pub fn encode(m: Message, s: &mut [u8])
     ensures { s.new ≡ sets s.old 0 (encoded m) }
 {

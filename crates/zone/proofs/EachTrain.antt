@@ -2,10 +2,9 @@
 use mathlib.Core.Bool.{Bool, true, false, cond, true≢false}
 use mathlib.Core.Path.{◌≡◌, refl, sym}
 use Prim.Native.Nat.{ℕ}
-use Rattle.zone.specs.declared.Movement.{Movement}
-use Rattle.zone.specs.declared.Movement.TheVariants.{NoMovement}
+use Rattle.std.specs.Prelude.{None}
 use Rattle.zone.specs.declared.Zone.{Zone}
-use Rattle.zone.specs.Movement.{is_standing, under_train}
+use Rattle.zone.specs.Movement.{Movement, is_standing, under_train}
 use Rattle.zone.specs.Trains.{movement_under, placed, changed}
 
 -- a movement found under a train is the zone's, and is under that train
@@ -14,7 +13,7 @@ pub found-under :
 unfolding movement_under
 found-under z x stands = go (under_train z.movement x) stands
   where
-    go : (b : Bool) → is_standing (cond b z.movement NoMovement) ≡ true → b ≡ true
+    go : (b : Bool) → is_standing (cond b z.movement None) ≡ true → b ≡ true
     go true s = refl
     go false s = absurd (true≢false (sym s))
 
@@ -38,7 +37,7 @@ unfolding changed
 every-changed P u x v old new = either P (under_train u x) new old
 
 pub every-under :
-    (P : Movement → Type 0) (z : Zone) (x : ℕ) → P NoMovement → P z.movement →
+    (P : Movement → Type 0) (z : Zone) (x : ℕ) → P None → P z.movement →
     P (movement_under z x)
 unfolding movement_under
 every-under P z x none old = either P (under_train z.movement x) old none

@@ -1,26 +1,29 @@
 -- A movement: none, or one that stands; what it says, and what the kinds do to it: ZONE-1, REGIME-1
 -- to REGIME-3 and the effects of KIND-5 to KIND-7 and KIND-13 (docs/RULES.md). Nothing else but its
 -- encoding in bytes looks into a movement.
-use Rattle.std.specs.Prelude.{Bool, true, false, cond, not, ◌&&◌, ℕ, eqb}
+use Rattle.std.specs.Prelude.{Bool, true, false, cond, not, ◌&&◌, ℕ, eqb, Option, None, Some}
 use Rattle.std.specs.Int.Bits.{bit_and}
 use Rattle.sets.specs.Sets.{union, without, within, is_empty, single}
 use Rattle.station.specs.declared.Station.{Station}
 use Rattle.station.specs.declared.Route.{Route}
 use Rattle.station.specs.Station.{empty_route, the_route, named_by}
-use Rattle.zone.specs.declared.Movement.{Movement}
-use Rattle.zone.specs.declared.Movement.TheVariants.{NoMovement, Standing}
+use Rattle.zone.specs.declared.Passage.{Passage}
 use Rattle.zone.specs.declared.Regime.{Regime}
 use Rattle.zone.specs.declared.Regime.TheVariants.{Held, Clear, Danger}
 use Rattle.zone.specs.declared.Work.{Work}
 use Rattle.zone.specs.Work.{agreed_set}
 
+-- a zone's movement: none, or one that stands
+abbrev pub Movement : Type 0
+Movement = Option Passage
+
 abbrev pub is_standing : Movement → Bool
-is_standing NoMovement = false
-is_standing (Standing p) = true
+is_standing None = false
+is_standing (Some p) = true
 
 abbrev pub train_of : Movement → ℕ
-train_of NoMovement = 0
-train_of (Standing p) = p.train
+train_of None = 0
+train_of (Some p) = p.train
 
 -- a movement "under this id"
 abbrev pub under_train : Movement → ℕ → Bool
@@ -28,26 +31,26 @@ under_train v id = is_standing v && eqb (train_of v) id
 
 -- 0 not ordered, 1 ordered clear, 2 ordered at danger
 abbrev pub order_of : Movement → ℕ
-order_of NoMovement = 0
-order_of (Standing p) = p.order
+order_of None = 0
+order_of (Some p) = p.order
 
 -- ordered: 18 in KIND-7.2 and KIND-9.2; where it is not, 18 in KIND-8.2
 abbrev pub is_ordered : Movement → Bool
 is_ordered v = not (eqb (order_of v) 0)
 
 abbrev pub cleared_set : Movement → ℕ
-cleared_set NoMovement = 0
-cleared_set (Standing p) = p.cleared
+cleared_set None = 0
+cleared_set (Some p) = p.cleared
 
 -- the cleared turnouts whose declaration means all efficient
 abbrev pub efficient_set : Movement → ℕ
-efficient_set NoMovement = 0
-efficient_set (Standing p) = p.efficient
+efficient_set None = 0
+efficient_set (Some p) = p.efficient
 
 -- the turnouts on which a release key was used for the movement
 abbrev pub key_set : Movement → ℕ
-key_set NoMovement = 0
-key_set (Standing p) = p.keys
+key_set None = 0
+key_set (Some p) = p.keys
 
 -- the turnouts that lack nothing: cleared, or, KIND-13.5: "A turnout with a key counts as lacking
 -- nothing"
@@ -60,13 +63,13 @@ allow_clear v = union (efficient_set v) (key_set v)
 
 -- the route of the movement; where none stands, one that names nothing
 abbrev pub route_for : Station → Movement → Route
-route_for st NoMovement = empty_route
-route_for st (Standing p) = the_route st p.route
+route_for st None = empty_route
+route_for st (Some p) = the_route st p.route
 
 -- the number of its route; 255, which no route has, where none stands
 abbrev pub route_number : Movement → ℕ
-route_number NoMovement = 255
-route_number (Standing p) = p.route
+route_number None = 255
+route_number (Some p) = p.route
 
 -- the turnouts that a standing movement names
 abbrev pub named_turnouts : Station → Movement → ℕ
@@ -105,6 +108,12 @@ is_clear Held = false
 is_clear Clear = true
 is_clear Danger = false
 
+-- the number of a regime: 0 held, 1 clear, 2 danger
+abbrev pub regime_number : Regime → ℕ
+regime_number Held = 0
+regime_number Clear = 1
+regime_number Danger = 2
+
 -- KIND-7.3: "Order 22: clear needs clear; danger needs not held."
 abbrev pub order_refused : ℕ → Regime → Bool
 order_refused order regime = cond (eqb order 1) (not (is_clear regime)) (is_held regime)
@@ -112,7 +121,7 @@ order_refused order regime = cond (eqb order 1) (not (is_clear regime)) (is_held
 -- KIND-5.3: "movement asked"
 abbrev pub movement_for : ℕ → ℕ → Movement
 movement_for train route =
-    Standing (record {
+    Some (record {
       train = train;
       route = route;
       order = 0;
@@ -123,8 +132,8 @@ movement_for train route =
 
 -- KIND-6.6: "cleared"; efficient or not as the declaration says
 abbrev pub cleared_at : Movement → ℕ → Bool → Movement
-cleared_at NoMovement n efficient = NoMovement
-cleared_at (Standing p) n efficient = Standing (record {
+cleared_at None n efficient = None
+cleared_at (Some p) n efficient = Some (record {
   train = p.train;
   route = p.route;
   order = p.order;
@@ -135,8 +144,8 @@ cleared_at (Standing p) n efficient = Standing (record {
 
 -- KIND-13.5: "key used"; the turnout "is not cleared"
 abbrev pub keyed_at : Movement → ℕ → Movement
-keyed_at NoMovement n = NoMovement
-keyed_at (Standing p) n = Standing (record {
+keyed_at None n = None
+keyed_at (Some p) n = Some (record {
   train = p.train;
   route = p.route;
   order = p.order;
@@ -147,8 +156,8 @@ keyed_at (Standing p) n = Standing (record {
 
 -- KIND-7.4: "ordered"
 abbrev pub ordered_as : Movement → ℕ → Movement
-ordered_as NoMovement order = NoMovement
-ordered_as (Standing p) order = Standing (record {
+ordered_as None order = None
+ordered_as (Some p) order = Some (record {
   train = p.train;
   route = p.route;
   order = order;

@@ -1,16 +1,14 @@
 -- The movements of a zone, by train: what the rules, the kinds and the questions ask of them.
 -- ZONE-1 (docs/RULES.md) has "one movement" in a zone; of the rules only these definitions know
 -- that there is one place.
-use Rattle.std.specs.Prelude.{Bool, cond, ℕ}
+use Rattle.std.specs.Prelude.{Bool, cond, ℕ, None}
 use Rattle.station.specs.declared.Station.{Station}
-use Rattle.zone.specs.declared.Movement.{Movement}
-use Rattle.zone.specs.declared.Movement.TheVariants.{NoMovement}
 use Rattle.zone.specs.declared.Zone.{Zone}
-use Rattle.zone.specs.Movement.{is_standing, under_train, cleared_set, named_turnouts}
+use Rattle.zone.specs.Movement.{Movement, is_standing, under_train, cleared_set, named_turnouts}
 
 -- the movement "under this id", or none
 unfoldable pub movement_under : Zone → ℕ → Movement
-movement_under z train = cond (under_train z.movement train) z.movement NoMovement
+movement_under z train = cond (under_train z.movement train) z.movement None
 
 -- KIND-5.1: 16, "movement in zone": one more movement finds no place
 unfoldable pub no_place : Zone → Bool

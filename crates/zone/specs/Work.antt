@@ -1,6 +1,6 @@
 -- The work of a zone: none, asked or agreed; what it says, and what the kinds do to it: ZONE-1 and
 -- the effects of KIND-1, KIND-2, KIND-4, KIND-6 and KIND-10 (docs/RULES.md).
-use Rattle.std.specs.Prelude.{Bool, true, false, ◌&&◌, ℕ, eqb}
+use Rattle.std.specs.Prelude.{Bool, true, false, ◌&&◌, ◌≡◌, ℕ, eqb}
 use Rattle.sets.specs.Sets.{union, without}
 use Rattle.zone.specs.declared.Agreement.{Agreement}
 use Rattle.zone.specs.declared.Work.{Work}
@@ -91,3 +91,9 @@ abbrev pub restored_of : Work → ℕ → Work
 restored_of NoWork s = NoWork
 restored_of (Asked q) s = Asked q
 restored_of (Agreed g) s = Agreed (with_sets g (without g.set s) (without g.opened s))
+
+-- one work after another where nothing but the agreement, if there is one, changes by a relation
+abbrev pub agreement_changes : (Agreement → Agreement → Type 0) → Work → Work → Type 0
+agreement_changes to NoWork w = w ≡ NoWork
+agreement_changes to (Asked q) w = w ≡ Asked q
+agreement_changes to (Agreed g) w = (h : Agreement) × to g h × (w ≡ Agreed h)

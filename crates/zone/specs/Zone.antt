@@ -1,20 +1,27 @@
 -- The state of a zone as a whole, and its answer to a message. ZONE-1 (docs/RULES.md): "Each zone
 -- holds its work (none, asked or agreed), one movement, its recorder, its last accepted time." The
 -- rules read its work and its movements by observers alone; its encoding in bytes reads the fields.
-use Rattle.std.specs.Prelude.{Bool, true, false, cond, ℕ, eqb}
+use Rattle.std.specs.Prelude.{Bool, true, false, cond, ℕ, eqb, None, Result, Ok, Err}
+use Rattle.refusals.specs.declared.Refusal.{Refusal}
+use Rattle.refusals.specs.Numbers.{number_of}
 use Rattle.zone.specs.declared.Work.{Work}
 use Rattle.zone.specs.declared.Work.TheVariants.{NoWork}
-use Rattle.zone.specs.declared.Movement.TheVariants.{NoMovement}
 use Rattle.zone.specs.declared.Zone.{Zone}
-use Rattle.zone.specs.declared.Answer.{Answer}
+use Rattle.zone.specs.declared.Heard.{Heard}
+
+-- the answer to a message: its code, the minutes, and the zone after it
+pub record Answer : Type 0 where
+  pub code : ℕ
+  pub minutes : ℕ
+  pub zone : Zone
 
 -- ZONE-2: "A fresh desk has no work and no movement in any zone, recorders working, times 0."
 abbrev pub fresh_zone : Zone
-fresh_zone = record { work = NoWork; movement = NoMovement; recorder = true; time = 0 }
+fresh_zone = record { work = NoWork; movement = None; recorder = true; time = 0 }
 
 -- what stands past the last zone of a desk
 abbrev pub no_zone : Zone
-no_zone = record { work = NoWork; movement = NoMovement; recorder = false; time = 0 }
+no_zone = record { work = NoWork; movement = None; recorder = false; time = 0 }
 
 -- the zone's work
 abbrev pub work_of : Zone → Work
@@ -46,3 +53,8 @@ refused_in z number = record { code = number; minutes = 0; zone = z }
 abbrev pub settled : Zone → ℕ → ℕ → Zone → Answer
 settled z number minutes next =
     cond (eqb number 0) (record { code = 0; minutes = minutes; zone = next }) (refused_in z number)
+
+-- the answer that a zone's result stands for: 0, the minutes and the zone after it, or a refusal
+abbrev pub answer_of : Zone → Result Heard Refusal → Answer
+answer_of z (Ok h) = record { code = 0; minutes = h.minutes; zone = h.zone }
+answer_of z (Err e) = refused_in z (number_of e)

@@ -4,7 +4,8 @@
 #![tactic(auto)]
 
 ghost use Rattle.std.specs.Prelude.{◌≡◌};
-ghost use Rattle.zone.specs.Zone.{fresh_zone, work_of, with_work, at_time, with_recorder, refused_in, settled};
+ghost use Rattle.zone.specs.Movement.{regime_number};
+ghost use Rattle.zone.specs.Zone.{fresh_zone, work_of, with_work, at_time, with_recorder};
 
 pub mod movements;
 pub mod regimes;
@@ -37,7 +38,7 @@ pub enum Work {
     Agreed(Agreement),
 }
 
-// A movement that stands: its train, its route, the order given (0 none, 1 clear, 2 danger), the turnouts cleared for
+// The movement of a zone, where one stands (ZONE-1, FORM-6; none: `None`): its train, its route, the order given (0 none, 1 clear, 2 danger), the turnouts cleared for
 // it, those of them whose declaration means all efficient, and the turnouts on which a release key was used for it.
 #[derive(Clone, Copy)]
 pub struct Passage {
@@ -49,36 +50,42 @@ pub struct Passage {
     pub order: u8,
 }
 
-// The movement of a zone (ZONE-1, FORM-6).
-#[derive(Clone, Copy)]
-pub enum Movement {
-    NoMovement,
-    Standing(Passage),
-}
-
 // The regimes: REGIME-1 to REGIME-3.
-#[derive(Clone, Copy)]
+#[derive(Clone, Copy, Debug, PartialEq, Eq)]
 pub enum Regime {
     Held,
     Clear,
     Danger,
 }
 
+impl From<Regime> for u8 {
+    ghost from_gives = { λ r n. n ≡ regime_number r };
+
+    // 0 held, 1 clear, 2 danger.
+    fn from(regime: Regime) -> u8 {
+        match regime {
+            Regime::Held => 0,
+            Regime::Clear => 1,
+            Regime::Danger => 2,
+        }
+    }
+}
+
 // A zone; the recorder is true while it works (ZONE-1, FORM-6).
 #[derive(Clone, Copy)]
 pub struct Zone {
     pub work: Work,
-    pub movement: Movement,
+    pub movement: Option<Passage>,
     pub time: u32,
     pub recorder: bool,
 }
 
-// The answer to a message: its code, the minutes, and the zone after it.
+// What an accepted message leaves: the zone after it, and the minutes (HEAR-4). A message is heard as
+// `Result<Heard, Refusal>`; one that is refused leaves the zone as it was.
 #[derive(Clone, Copy)]
-pub struct Answer {
+pub struct Heard {
     pub zone: Zone,
     pub minutes: u32,
-    pub code: u8,
 }
 
 impl Zone {
@@ -88,7 +95,7 @@ impl Zone {
     {
         Zone {
             work: Work::NoWork,
-            movement: Movement::NoMovement,
+            movement: None,
             recorder: true,
             time: 0,
         }
@@ -125,29 +132,4 @@ pub fn with_recorder(z: Zone, working: bool, time: u32) -> Zone
         time,
         ..z
     }
-}
-
-// The answer that refuses a message (CALL-3, HEAR-4).
-pub fn refused_in(z: Zone, code: u8) -> Answer
-    ensures { result ≡ refused_in z code }
-{
-    Answer {
-        code,
-        minutes: 0,
-        zone: z,
-    }
-}
-
-// The answer of a code: 0 gives the next zone and the minutes, any other the zone as it was (HEAR-4).
-pub fn settle(z: Zone, code: u8, minutes: u32, next: Zone) -> Answer
-    ensures { result ≡ settled z code minutes next }
-{
-    if code == 0 {
-        return Answer {
-            code: 0,
-            minutes,
-            zone: next,
-        };
-    }
-    refused_in(z, code)
 }

@@ -1,11 +1,11 @@
 // The regime of a movement, REGIME-1 to REGIME-3 (docs/RULES.md): which turnouts of its route are under agreed work,
 // which of them lack something, and which order that allows.
 ghost use Rattle.std.specs.Prelude.{◌≡◌};
-ghost use Rattle.zone.specs.Movement.{worked_turnouts, lacking_on, regime_on, order_refused, is_held, is_clear};
+ghost use Rattle.zone.specs.Movement.{worked_turnouts, lacking_on, regime_on, order_refused};
 
 use super::movements::{allow_clear, lack_nothing};
 use super::works::agreed_set;
-use super::{Movement, Regime, Work};
+use super::{Passage, Regime, Work};
 use station::Route;
 
 // The route's turnouts under agreed work.
@@ -16,14 +16,15 @@ pub fn worked_turnouts(r: Route, w: Work) -> u64
 }
 
 // Those of them that have neither a clearance for the movement nor a key (REGIME-1).
-pub fn lacking_clearance(r: Route, w: Work, v: Movement) -> u64
+pub fn lacking_clearance(r: Route, w: Work, v: Option<Passage>) -> u64
     ensures { result ≡ lacking_on r w v }
 {
     sets::minus(worked_turnouts(r, w), lack_nothing(v))
 }
 
 // The regime of the movement on the route (REGIME-1 to REGIME-3).
-pub fn regime(r: Route, w: Work, v: Movement) -> Regime
+#[tactic(auto, unfolding(crate::specs::Movement::regime_on))]
+pub fn regime(r: Route, w: Work, v: Option<Passage>) -> Regime
     ensures { result ≡ regime_on r w v }
 {
     let worked = worked_turnouts(r, w);
@@ -36,32 +37,12 @@ pub fn regime(r: Route, w: Work, v: Movement) -> Regime
     Regime::Danger
 }
 
-fn is_held(r: Regime) -> bool
-    ensures { result ≡ is_held r }
-{
-    match r {
-        Regime::Held => true,
-        Regime::Clear => false,
-        Regime::Danger => false,
-    }
-}
-
-fn is_clear(r: Regime) -> bool
-    ensures { result ≡ is_clear r }
-{
-    match r {
-        Regime::Held => false,
-        Regime::Clear => true,
-        Regime::Danger => false,
-    }
-}
-
 // Whether the regime forbids an order, 1 clear or 2 danger (KIND-7.3).
 pub fn order_refused(order: u8, r: Regime) -> bool
     ensures { result ≡ order_refused order r }
 {
     if order == 1 {
-        return !is_clear(r);
+        return r != Regime::Clear;
     }
-    is_held(r)
+    r == Regime::Held
 }

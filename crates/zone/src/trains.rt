@@ -1,5 +1,7 @@
 // The movements of a zone, by train: what they say, and what messages do to them. A zone has one place for a movement
 // (ZONE-1 of docs/RULES.md).
+#![tactic(auto, unfolding(crate::specs::Trains::movement_under, crate::specs::Trains::no_place, crate::specs::Trains::named_standing, crate::specs::Trains::cleared_standing, crate::specs::Trains::placed, crate::specs::Trains::changed,))]
+
 ghost use Rattle.std.specs.Prelude.{◌≡◌};
 ghost use Rattle.zone.specs.Trains.{
   movement_under,
@@ -11,61 +13,52 @@ ghost use Rattle.zone.specs.Trains.{
 };
 
 use super::movements::{cleared_set, is_standing, named_turnouts, under_train};
-use super::{Movement, Zone};
+use super::{Passage, Zone};
 use station::Station;
 
 // The movement under this train, or none.
-pub fn movement_under(z: Zone, train: u32) -> Movement
+pub fn movement_under(z: Zone, train: u32) -> Option<Passage>
     ensures { result ≡ movement_under z train }
 {
-    let v = z.movement;
-    if under_train(v, train) {
-        return v;
-    }
-    Movement::NoMovement
+    z.movement.filter(|p| p.train == train)
 }
 
 // Whether there is no place for one more movement (KIND-5.1).
 pub fn no_place(z: Zone) -> bool
     ensures { result ≡ no_place z }
 {
-    let v = z.movement;
-    is_standing(v)
+    is_standing(z.movement)
 }
 
 // The turnouts that standing movements name.
 pub fn named_standing(st: Station, z: Zone) -> u64
     ensures { result ≡ named_standing st z }
 {
-    let v = z.movement;
-    named_turnouts(st, v)
+    named_turnouts(st, z.movement)
 }
 
 // The turnouts cleared for standing movements.
 pub fn cleared_standing(z: Zone) -> u64
     ensures { result ≡ cleared_standing z }
 {
-    let v = z.movement;
-    cleared_set(v)
+    cleared_set(z.movement)
 }
 
 // The zone with one more movement, where there is a place for it (KIND-5.3).
-pub fn with_movement(z: Zone, v: Movement) -> Zone
+pub fn with_movement(z: Zone, v: Option<Passage>) -> Zone
     ensures { result ≡ with_movement z v }
 {
-    let u = z.movement;
-    if is_standing(u) {
-        return z;
+    Zone {
+        movement: z.movement.or(v),
+        ..z
     }
-    Zone { movement: v, ..z }
 }
 
 // The zone with another movement, or none, in the place of the one under this train.
-pub fn changed_under(z: Zone, train: u32, v: Movement) -> Zone
+pub fn changed_under(z: Zone, train: u32, v: Option<Passage>) -> Zone
     ensures { result ≡ changed_under z train v }
 {
-    let u = z.movement;
-    if under_train(u, train) {
+    if under_train(z.movement, train) {
         return Zone { movement: v, ..z };
     }
     z

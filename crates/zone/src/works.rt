@@ -13,10 +13,10 @@ ghost use Rattle.zone.specs.Work.{
   agreed_at,
   asked_for,
   agreed_from,
-  with_sets,
   opened_to,
   shut_to,
   restored_of,
+  agreement_changes,
 };
 
 use super::{Agreement, Request, Work};
@@ -25,21 +25,13 @@ use super::{Agreement, Request, Work};
 pub fn has_work(w: Work) -> bool
     ensures { result ≡ has_work w }
 {
-    match w {
-        Work::NoWork => false,
-        Work::Asked(_) => true,
-        Work::Agreed(_) => true,
-    }
+    !matches!(w, Work::NoWork)
 }
 
 pub fn is_agreed(w: Work) -> bool
     ensures { result ≡ is_agreed w }
 {
-    match w {
-        Work::NoWork => false,
-        Work::Asked(_) => false,
-        Work::Agreed(_) => true,
-    }
+    matches!(w, Work::Agreed(_))
 }
 
 fn form_of(w: Work) -> u32
@@ -86,9 +78,8 @@ pub fn agreed_set(w: Work) -> u64
     ensures { result ≡ agreed_set w }
 {
     match w {
-        Work::NoWork => 0,
-        Work::Asked(_) => 0,
         Work::Agreed(g) => g.set,
+        _ => 0,
     }
 }
 
@@ -97,9 +88,8 @@ pub fn open_set(w: Work) -> u64
     ensures { result ≡ open_set w }
 {
     match w {
-        Work::NoWork => 0,
-        Work::Asked(_) => 0,
         Work::Agreed(g) => g.opened,
+        _ => 0,
     }
 }
 
@@ -108,9 +98,8 @@ pub fn agreed_at(w: Work) -> u32
     ensures { result ≡ agreed_at w }
 {
     match w {
-        Work::NoWork => 0,
-        Work::Asked(_) => 0,
         Work::Agreed(g) => g.since,
+        _ => 0,
     }
 }
 
@@ -138,15 +127,14 @@ pub fn agreed_from(w: Work, time: u32) -> Work
     }
 }
 
-fn with_sets(g: Agreement, set: u64, opened: u64) -> Agreement
-    ensures { result ≡ with_sets g set opened }
+// The work with its agreement changed; other work as it is.
+fn on_agreed<F: Fn(Agreement) -> Agreement>(w: Work, change: F) -> Work
+    requires { F.IsAlwaysCallable change }
+    ensures { agreement_changes (F.post change) w result }
 {
-    Agreement {
-        form: g.form,
-        manner: g.manner,
-        set,
-        since: g.since,
-        opened,
+    match w {
+        Work::Agreed(g) => Work::Agreed(change(g)),
+        _ => w,
     }
 }
 
@@ -154,35 +142,38 @@ fn with_sets(g: Agreement, set: u64, opened: u64) -> Agreement
 pub fn opened_to(w: Work, s: u64) -> Work
     ensures { result ≡ opened_to w s }
 {
-    match w {
-        Work::NoWork => Work::NoWork,
-        Work::Asked(q) => Work::Asked(q),
-        Work::Agreed(g) => Work::Agreed(with_sets(g, g.set, sets::join(g.opened, s))),
-    }
+    on_agreed(
+        w,
+        |g| Agreement {
+            opened: sets::join(g.opened, s),
+            ..g
+        },
+    )
 }
 
 // The work with turnouts shut (KIND-6.6).
 pub fn shut_to(w: Work, s: u64) -> Work
     ensures { result ≡ shut_to w s }
 {
-    match w {
-        Work::NoWork => Work::NoWork,
-        Work::Asked(q) => Work::Asked(q),
-        Work::Agreed(g) => Work::Agreed(with_sets(g, g.set, sets::minus(g.opened, s))),
-    }
+    on_agreed(
+        w,
+        |g| Agreement {
+            opened: sets::minus(g.opened, s),
+            ..g
+        },
+    )
 }
 
 // The work without the turnouts restored (KIND-10.6).
 pub fn restored_of(w: Work, s: u64) -> Work
     ensures { result ≡ restored_of w s }
 {
-    match w {
-        Work::NoWork => Work::NoWork,
-        Work::Asked(q) => Work::Asked(q),
-        Work::Agreed(g) => Work::Agreed(with_sets(
-            g,
-            sets::minus(g.set, s),
-            sets::minus(g.opened, s),
-        )),
-    }
+    on_agreed(
+        w,
+        |g| Agreement {
+            set: sets::minus(g.set, s),
+            opened: sets::minus(g.opened, s),
+            ..g
+        },
+    )
 }

@@ -12,7 +12,7 @@ use Rattle.sets.specs.Range.{first_from}
 use Rattle.sets.proofs.Ranges.{none_below, not_found}
 use Rattle.sets.proofs.Tables.{places-past}
 use Rattle.station.specs.declared.Station.{Station}
-use Rattle.sheet.specs.declared.Sheet.{Sheet}
+use Rattle.sheet.specs.Sheet.{Sheet}
 use Rattle.station.specs.Station.{empty_turnout, empty_route, turnout_at, turnout_count, route_count}
 use Rattle.layout.specs.Layout.{count_p, count_r, header_number, version, turnout_in}
 use Rattle.layout.specs.Layout.{turnout_place, route_in, route_place, station_in}

@@ -12,7 +12,7 @@ use Rattle.layout.proofs.Header.{header-most}
 use Rattle.station.specs.Station.{turnouts_alone, turnout_count, route_count}
 use Rattle.partner_records.specs.PartnerRecords as partners
 use Rattle.group_records.specs.GroupRecords as groups
-use Rattle.sheet.specs.declared.Finding.{Finding}
+use Rattle.sheet.specs.Sheet.{Finding}
 use Rattle.sheet.specs.Sheet.{bad_route, refused_sheet, finding_of, sheet_by, turnouts_found, meant}
 use Rattle.sheet.specs.Sheet.{routes_judged, judged, judged_by_partners, judged_by, read_sheet}
 

@@ -5,7 +5,7 @@ use Rattle.station.specs.declared.Route.{Route}
 use Rattle.station.specs.declared.Station.{Station}
 use Rattle.station.specs.Station.{empty_turnout, empty_route}
 use Rattle.groups.specs.Cases.{turnout}
-use Rattle.sheet.specs.declared.Finding.{Finding}
+use Rattle.sheet.specs.Sheet.{Finding}
 use Rattle.sheet.specs.Sheet.{bad_route, read_sheet, accepted_sheet, finding_of}
 
 -- K-1: "route 0 runs over {0}, flank {2}, reverse empty"

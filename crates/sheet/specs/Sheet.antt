@@ -1,20 +1,32 @@
 -- Judging a station and reading a sheet of either version: SHEET-1, SHEET-5 to SHEET-9, SHEET-11,
 -- SHEET-12 and SHEET-14 (docs/RULES.md).
-use Rattle.std.specs.Prelude.{Bool, cond, not, ◌&&◌, ◌||◌, List, ℕ, ◌^◌, ◌-◌, eqb, ltb}
+use Rattle.std.specs.Prelude.{Bool, cond, not, ◌&&◌, ◌||◌, List, Result, Ok, Err, ℕ, ◌^◌, ◌-◌, eqb, ltb}
 use Rattle.std.specs.Int.Bits.{bit_and}
 use Rattle.sets.specs.Range.{first_from, all_from}
 use Rattle.sets.specs.Sets.{has, is_empty, overlaps, within, count}
 use Rattle.station.specs.declared.Turnout.{Turnout}
 use Rattle.station.specs.declared.Route.{Route}
 use Rattle.station.specs.declared.Station.{Station}
-use Rattle.sheet.specs.declared.Finding.{Finding}
-use Rattle.sheet.specs.declared.Sheet.{Sheet}
+use Rattle.refusals.specs.declared.Refusal.{Refusal}
+use Rattle.refusals.specs.Numbers.{number_of, index_of}
 use Rattle.station.specs.Station.{empty_station, turnout_at, route_at, turnout_count, route_count}
 use Rattle.groups.specs.Groups.{tied, whole}
 use Rattle.station.specs.Station.{named_by}
 use Rattle.partner_records.specs.PartnerRecords as partners
 use Rattle.group_records.specs.GroupRecords as groups
 use Rattle.layout.specs.Layout.{header_number, version, station_in}
+
+-- What reading a sheet gives: 0 and the station; or the number that refuses it, the index of the record
+-- for 5 and 6 (else 0), and the station that is 0 throughout (SHEET-11, SHEET-12).
+pub record Sheet : Type 0 where
+  pub station : Station
+  pub code : ℕ
+  pub index : ℕ
+
+-- What judging a station finds: 0, or the number and the index of its first bad record.
+pub record Finding : Type 0 where
+  pub code : ℕ
+  pub index : ℕ
 
 -- the turnouts below p, all of them
 abbrev pub all_turnouts : ℕ → ℕ
@@ -69,6 +81,16 @@ refused_sheet number place = record { code = number; index = place; station = em
 
 abbrev pub accepted_sheet : Station → Sheet
 accepted_sheet st = record { code = 0; index = 0; station = st }
+
+-- what code answers, as such a sheet: the station, or the refusal by its number and index
+abbrev pub sheet_of : Result Station Refusal → Sheet
+sheet_of (Ok st) = accepted_sheet st
+sheet_of (Err e) = refused_sheet (number_of e) (index_of e)
+
+-- and as a finding
+abbrev pub found_of : {A : Type 0} → Result A Refusal → Finding
+found_of (Ok a) = record { code = 0; index = 0 }
+found_of (Err e) = record { code = number_of e; index = index_of e }
 
 -- SHEET-11, routes: the station, or the number and index of its first bad route; asked where its
 -- turnouts are good

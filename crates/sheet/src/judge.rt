@@ -7,7 +7,7 @@ ghost use Rattle.sheet.specs.Sheet.{
   member_by,
   pair_in,
   bad_route,
-  refused_sheet,
+  found_of,
   finding_of,
   routes_judged,
   bad_turnout_by,
@@ -18,10 +18,10 @@ ghost use Rattle.sheet.specs.Sheet.{
 ghost use Rattle.sets.specs.Table.{places};
 ghost use Rattle.station.specs.Station.{turnouts_alone};
 
-use super::{BAD_ROUTE, BAD_TURNOUT, Finding, Sheet};
 use groups::carriers::ties;
 use groups::is_whole;
-use station::observe::{at_most_64, no_routes, no_turnouts};
+use refusals::Refusal;
+use station::observe::at_most_64;
 use station::{Route, Station, Turnout, names, route_count, turnout_count};
 
 // The set of the first p turnouts.
@@ -110,35 +110,15 @@ fn first_bad_route(st: Station) -> usize
     i
 }
 
-// The answer that refuses a sheet (SHEET-12).
-pub fn refused(code: u8, index: u8) -> Sheet
-    ensures { result ≡ refused_sheet code index }
-{
-    Sheet {
-        code,
-        index,
-        station: Station {
-            turnouts: 0,
-            routes: 0,
-            zones: 0,
-            turnout: no_turnouts(),
-            route: no_routes(),
-        },
-    }
-}
-
-// The finding on a station whose turnouts are good: its first bad route.
-pub fn judge_routes(st: Station) -> Finding
-    ensures { result ≡ finding_of (routes_judged st) }
+// Judges the routes of a station whose turnouts are good: the first bad one refuses it.
+pub fn judge_routes(st: Station) -> Result<(), Refusal>
+    ensures { found_of result ≡ finding_of (routes_judged st) }
 {
     let r = first_bad_route(st);
     if r < route_count(st) {
-        return Finding {
-            code: BAD_ROUTE,
-            index: r as u8,
-        };
+        return Err(Refusal::BadRoute(r as u8));
     }
-    Finding { code: 0, index: 0 }
+    Ok(())
 }
 
 // The index of the first bad one of p turnouts with these records, of z zones, by the version of their sheet.
@@ -151,18 +131,15 @@ fn first_bad_turnout(version: u16, p: u8, z: u8, ts: [Turnout; 64]) -> usize
     group_records::first_bad_turnout(p, z, ts)
 }
 
-// The finding on these turnouts: the first bad one (SHEET-11).
-pub fn judge_turnouts(version: u16, p: u8, z: u8, ts: [Turnout; 64]) -> Finding
-    ensures { result ≡ turnouts_found version (turnouts_alone p z ts) }
+// Judges these turnouts: the first bad one refuses them (SHEET-11).
+pub fn judge_turnouts(version: u16, p: u8, z: u8, ts: [Turnout; 64]) -> Result<(), Refusal>
+    ensures { found_of result ≡ turnouts_found version (turnouts_alone p z ts) }
 {
     let t = first_bad_turnout(version, p, z, ts);
     if t < at_most_64(p) {
-        return Finding {
-            code: BAD_TURNOUT,
-            index: t as u8,
-        };
+        return Err(Refusal::BadTurnout(t as u8));
     }
-    Finding { code: 0, index: 0 }
+    Ok(())
 }
 
 // The records of p turnouts with their groups' numbers, by the version of their sheet (SHEET-14).
@@ -175,14 +152,10 @@ pub fn grouped_turnouts(version: u16, p: u8, ts: [Turnout; 64]) -> [Turnout; 64]
     ts
 }
 
-// The finding on a station as one of version 2: its first bad record.
-pub fn judge(st: Station) -> Finding
-    ensures { result ≡ finding_of (judged st) }
+// Judges a station as one of version 2: its first bad record refuses it.
+pub fn judge(st: Station) -> Result<(), Refusal>
+    ensures { found_of result ≡ finding_of (judged st) }
 {
-    let ts = st.turnout;
-    let found = judge_turnouts(2, st.turnouts, st.zones, ts);
-    if found.code != 0 {
-        return found;
-    }
+    judge_turnouts(2, st.turnouts, st.zones, st.turnout)?;
     judge_routes(st)
 }

@@ -4,56 +4,22 @@
 #![tactic(auto)]
 
 ghost use Rattle.std.specs.Prelude.{◌≡◌};
-ghost use Rattle.sheet.specs.Sheet.{read_sheet};
+ghost use Rattle.sheet.specs.Sheet.{sheet_of, read_sheet};
+
+use refusals::Refusal;
+use station::Station;
 
 pub mod judge;
 
-// The numbers that refuse a sheet by a record; those of its header and its length are in the crate `layout`.
-pub const BAD_TURNOUT: u8 = 5;
-
-pub const BAD_ROUTE: u8 = 6;
-
-// What reading a sheet gives: 0 and the station; or the number that refuses it, the index of the record for 5 and 6
-// (else 0), and the station that is 0 throughout (SHEET-11, SHEET-12).
-#[derive(Clone, Copy)]
-pub struct Sheet {
-    pub station: station::Station,
-    pub code: u8,
-    pub index: u8,
-}
-
-// What judging a station finds: 0, or the number and the index of its first bad record. Smaller than a Sheet, which
-// holds the station.
-#[derive(Clone, Copy)]
-pub struct Finding {
-    pub code: u8,
-    pub index: u8,
-}
-
 // Reads a sheet of either version.
-pub fn read_sheet(s: &[u8]) -> Sheet
-    ensures { result ≡ read_sheet s.now }
+pub fn read_sheet(s: &[u8]) -> Result<Station, Refusal>
+    ensures { sheet_of result ≡ read_sheet s.now }
 {
-    let code = layout::header_code(s);
-    if code != 0 {
-        return judge::refused(code, 0);
-    }
+    layout::check_header(s)?;
     let version = layout::version_of(s);
     let mut station = layout::station_in(s);
-    let old = station.turnout;
-    let found = judge::judge_turnouts(version, station.turnouts, station.zones, old);
-    if found.code != 0 {
-        return judge::refused(found.code, found.index);
-    }
-    let numbered = judge::grouped_turnouts(version, station.turnouts, old);
-    station.turnout = numbered;
-    let routes = judge::judge_routes(station);
-    if routes.code != 0 {
-        return judge::refused(routes.code, routes.index);
-    }
-    Sheet {
-        code: 0,
-        index: 0,
-        station,
-    }
+    judge::judge_turnouts(version, station.turnouts, station.zones, station.turnout)?;
+    station.turnout = judge::grouped_turnouts(version, station.turnouts, station.turnout);
+    judge::judge_routes(station)?;
+    Ok(station)
 }

@@ -1,61 +1,42 @@
-use borrow.Author.Tests.{eq-eqb, ne_eqb}
-use Rattle.sheet.specs.Sheet.{read_sheet}
-use Rattle.sheet.proofs.Reading.{after-turnouts, after-routes}
+use Rattle.std.proofs.Common.{rules, ◌∙◌, sym, Ok, Err}
+use Rattle.sheet.proofs.Reading.{header-refused, turnouts-refused, routes-read, routes-refused, with_turnouts}
 use Rattle.sheet.proofs.read_sheet.Goals as goal
 
-pub returns-then-code-ne0 : goal.returns-then-code-ne0
-unfolding read_sheet
-returns-then-code-ne0 c =
-    let header = c.header_code-code in
-    rw (c.refused.ensures, ← header.ensures, ne_eqb header.result 0 c.if-code-ne0.true)
+pub returns-in_err-check_header : goal.returns-in_err-check_header
+returns-in_err-check_header c =
+    let refused = c.in_err-check_header in
+    let told = header-refused c.args.s.now refused.field-0.0 refused.ensures in
+    search rules
 
 -- a bad turnout
-pub returns-then-found-ne0 : goal.returns-then-found-ne0
-returns-then-found-ne0 c =
-    let found = c.judge_turnouts-found in
-    let station = c.station_in-station in
+pub returns-in_err-judge_turnouts : goal.returns-in_err-judge_turnouts
+returns-in_err-judge_turnouts c =
+    let refused = c.in_err-judge_turnouts in
     let version = c.version_of-version in
-    let header = c.header_code-code in
-    rw (
-      c.refused-then-found-ne0.ensures,
-      after-turnouts c.args.s.now header.result version.result station.result found.result
-          header.ensures c.if-code-ne0.false version.ensures station.ensures found.ensures,
-      ne_eqb found.result.code 0 c.if-found-ne0.true,
-    )
+    let station = c.station_in-station in
+    let told =
+    turnouts-refused c.args.s.now version.result station.result refused.field-0.0
+    (sym c.in_ok-check_header.ensures) version.ensures station.ensures refused.ensures in
+    search rules
 
 -- good turnouts and a bad route
-pub returns-then-routes-ne0 : goal.returns-then-routes-ne0
-returns-then-routes-ne0 c =
-    let numbered = c.grouped_turnouts-numbered in
-    let found = c.judge_turnouts-found in
+pub returns-in_err-judge_routes : goal.returns-in_err-judge_routes
+returns-in_err-judge_routes c =
+    let refused = c.in_err-judge_routes in
     let station = c.station_in-station in
-    let version = c.version_of-version in
-    let header = c.header_code-code in
-    let route = c.judge_routes-routes in
-    rw (
-      c.refused-then-routes-ne0.ensures,
-      after-turnouts c.args.s.now header.result version.result station.result found.result
-          header.ensures c.if-code-ne0.false version.ensures station.ensures found.ensures,
-      eq-eqb found.result.code 0 c.if-found-ne0.false,
-      after-routes version.result station.result numbered.result route.result
-          numbered.ensures route.ensures,
-      ne_eqb route.result.code 0 c.if-routes-ne0.true,
-    )
+    let numbered = c.grouped_turnouts-station in
+    let told =
+    routes-read c.args.s.now c.version_of-version.result station.result numbered.result (Err refused.field-0.0)
+    (sym c.in_ok-check_header.ensures) c.version_of-version.ensures station.ensures
+    c.in_ok-judge_turnouts.ensures numbered.ensures refused.ensures in
+    let same = sym (told ∙ routes-refused refused.field-0.0 (with_turnouts station.result numbered.result)) in
+    search rules
 
 -- all good
 pub returns : goal.returns
 returns c =
-    let numbered = c.grouped_turnouts-numbered in
-    let found = c.judge_turnouts-found in
     let station = c.station_in-station in
-    let version = c.version_of-version in
-    let header = c.header_code-code in
-    let route = c.judge_routes-routes in
-    rw (
-      after-turnouts c.args.s.now header.result version.result station.result found.result
-          header.ensures c.if-code-ne0.false version.ensures station.ensures found.ensures,
-      eq-eqb found.result.code 0 c.if-found-ne0.false,
-      after-routes version.result station.result numbered.result route.result
-          numbered.ensures route.ensures,
-      eq-eqb route.result.code 0 c.if-routes-ne0.false,
-    )
+    let numbered = c.grouped_turnouts-station in
+    sym (routes-read c.args.s.now c.version_of-version.result station.result numbered.result (Ok tt)
+    (sym c.in_ok-check_header.ensures) c.version_of-version.ensures station.ensures
+    c.in_ok-judge_turnouts.ensures numbered.ensures c.in_ok-judge_routes.ensures)

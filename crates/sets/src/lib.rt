@@ -2,7 +2,7 @@
 // any number and any word. The rules are in specs/Sets.antt, the laws by membership in proofs/Membership.antt.
 #![tactic(auto)]
 
-ghost use Rattle.std.specs.Prelude.{◌≡◌};
+ghost use Rattle.std.specs.Prelude.{◌≡◌, cond};
 ghost use Rattle.sets.specs.Sets.{has, single, is_empty, overlaps, within, without, union, count, lowest};
 
 // The turnouts that a set can hold, numbered from 0.
@@ -62,16 +62,27 @@ pub fn join(a: u64, b: u64) -> u64
     a | b
 }
 
+// The set s with turnout n where the test holds; n from 64 on is not added.
+pub fn add_if(s: u64, n: usize, test: bool) -> u64
+    ensures { result ≡ union s (cond test (single n) 0) }
+{
+    if test {
+        return join(s, only(n));
+    }
+    s
+}
+
 // How many turnouts are in s (FORM-2).
+#[tactic(auto, using(crate::proofs::Counting::count_ones))]
 pub fn how_many(s: u64) -> u32
     ensures { result ≡ count s }
 {
-    u64::count_ones(s)
+    s.count_ones()
 }
 
 // The lowest turnout in s; 64 if s is empty (FORM-2).
 pub fn lowest_of(s: u64) -> u32
     ensures { result ≡ lowest s }
 {
-    u64::trailing_zeros(s)
+    s.trailing_zeros()
 }

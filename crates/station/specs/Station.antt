@@ -55,6 +55,11 @@ zone_of st n = (turnout_at st n).zone
 abbrev pub drive_of : Station → ℕ → ℕ
 drive_of st n = (turnout_at st n).drive
 
+-- the turnouts that meet a test by their records, of p turnouts with the records ts; VALUE-1: "a count
+-- over its limit is read as the limit"
+unfoldable pub turnouts_meeting : (Turnout → Bool) → ℕ → List Turnout → ℕ
+turnouts_meeting test p ts = set_of (λ n. test (get_or ts n empty_turnout)) (min p 64)
+
 -- the turnouts of a zone
 unfoldable pub zone_turnouts : Station → ℕ → ℕ
 zone_turnouts st z = set_of (λ n. eqb (zone_of st n) z) (turnout_count st)

@@ -3,9 +3,10 @@
 // gave. The crate `groups` says what is tied together, the crate `sheet` reads a station.
 #![tactic(auto)]
 
-ghost use Rattle.std.specs.Prelude.{◌≡◌, ◌<◌};
+ghost use Rattle.std.specs.Prelude.{◌≡◌, ◌<◌, eqb};
 ghost use Rattle.station.specs.Station.{
   empty_route,
+  empty_station,
   number_if,
   turnout_count,
   route_count,
@@ -21,6 +22,8 @@ ghost use Rattle.station.specs.Station.{
 
 pub mod observe;
 
+use observe::TurnoutTest;
+
 // The limits of a station.
 pub const TURNOUTS: usize = 64;
 
@@ -29,15 +32,24 @@ pub const ROUTES: usize = 64;
 pub const ZONES: usize = 8;
 
 // A turnout: its zone, the number of its group (255 for alone), its drive (0 electric, 1 hand with key lock).
-#[derive(Clone, Copy)]
+#[derive(Clone, Copy, Debug, PartialEq, Eq)]
 pub struct Turnout {
     pub zone: u8,
     pub group: u8,
     pub drive: u8,
 }
 
+impl Turnout {
+    // A record in which every number is 0.
+    pub const NONE: Turnout = Turnout {
+        zone: 0,
+        group: 0,
+        drive: 0,
+    };
+}
+
 // A route: its zone, the sets that it runs over, of its flank and of its exit zone, and those that lie reverse.
-#[derive(Clone, Copy)]
+#[derive(Clone, Copy, Debug, PartialEq, Eq)]
 pub struct Route {
     pub over: u64,
     pub flank: u64,
@@ -46,8 +58,19 @@ pub struct Route {
     pub zone: u8,
 }
 
+impl Route {
+    // A route that names nothing: every number is 0.
+    pub const NONE: Route = Route {
+        zone: 0,
+        over: 0,
+        flank: 0,
+        exits: 0,
+        reverse: 0,
+    };
+}
+
 // A station: the counts P, R and Z, and the records; those past P and R are 0.
-#[derive(Clone, Copy)]
+#[derive(Clone, Copy, Debug, PartialEq, Eq)]
 pub struct Station {
     pub route: [Route; 64],
     pub turnout: [Turnout; 64],
@@ -56,66 +79,84 @@ pub struct Station {
     pub zones: u8,
 }
 
+impl Station {
+    // The station in which every number is 0 (SHEET-12).
+    #[tactic(auto, unfolding(crate::specs::Station::empty_station))]
+    pub fn empty() -> Station
+        ensures { result ≡ empty_station }
+    {
+        Station {
+            turnouts: 0,
+            routes: 0,
+            zones: 0,
+            turnout: [Turnout::NONE; 64],
+            route: [Route::NONE; 64],
+        }
+    }
+}
+
 // How many turnouts, at most 64 (VALUE-1).
 pub fn turnout_count(st: Station) -> usize
     ensures { result ≡ turnout_count st }
 {
-    observe::at_most_64(st.turnouts)
+    usize::from(st.turnouts).min(TURNOUTS)
 }
 
 // How many routes, at most 64 (VALUE-1).
 pub fn route_count(st: Station) -> usize
     ensures { result ≡ route_count st }
 {
-    observe::at_most_64(st.routes)
+    usize::from(st.routes).min(ROUTES)
 }
 
 // How many zones, at most 8 (VALUE-1).
 pub fn zone_count(st: Station) -> usize
     ensures { result ≡ zone_count st }
 {
-    observe::at_most_8(st.zones)
+    usize::from(st.zones).min(ZONES)
 }
 
 // The zone of a turnout, as stored; 0 from 64 on.
 pub fn zone_of(st: Station, n: usize) -> u8
     ensures { result ≡ zone_of st n }
 {
-    let ts = st.turnout;
-    let t = observe::record_of(ts, n);
-    t.zone
+    observe::record_of(st.turnout, n).zone
 }
 
 // The drive of a turnout, as stored; 0 from 64 on.
 pub fn drive_of(st: Station, n: usize) -> u8
     ensures { result ≡ drive_of st n }
 {
-    let ts = st.turnout;
-    let t = observe::record_of(ts, n);
-    t.drive
+    observe::record_of(st.turnout, n).drive
+}
+
+// The test that a turnout is of a zone.
+#[derive(Drop)]
+struct IsOfZone {
+    zone: u8,
+}
+
+impl TurnoutTest for IsOfZone {
+    ghost meets = { λ test t. eqb t.zone test.zone };
+
+    fn meets(&self, t: Turnout) -> bool {
+        t.zone == self.zone
+    }
 }
 
 // The turnouts of a zone.
+#[tactic(auto, unfolding(crate::specs::Station::zone_turnouts, crate::specs::Station::turnouts_meeting))]
 pub fn turnouts_of_zone(st: Station, z: u8) -> u64
     ensures { result ≡ zone_turnouts st z }
 {
-    let n = turnout_count(st);
-    let ts = st.turnout;
-    let mut found: u64 = 0;
-    let mut i: usize = 0;
-    while i < n {
-        let t = ts[i];
-        found = observe::with_turnout(found, i, t.zone == z);
-        i += 1;
-    }
-    found
+    observe::turnouts_where(st.turnouts, st.turnout, &IsOfZone { zone: z })
 }
 
 // A route that names nothing.
 pub fn route_none() -> Route
     ensures { result ≡ empty_route }
 {
-    observe::no_route()
+    Route::NONE
 }
 
 // The code where a test holds, else the rest of the answer.
@@ -130,11 +171,10 @@ pub fn first_code(test: bool, code: u8, rest: u8) -> u8
 pub fn route_of(st: Station, n: usize) -> Route
     ensures { result ≡ the_route st n }
 {
-    let rs = st.route;
     if n < route_count(st) {
-        return rs[n];
+        return st.route[n];
     }
-    observe::no_route()
+    Route::NONE
 }
 
 // The index of a route's record in a station; 0 for a number from 64 on.
@@ -142,7 +182,7 @@ pub fn route_index(n: u8) -> usize
     ensures value { result ≡ route_index n }
     ensures upper_bound { result < 64 }
 {
-    let n = n as usize;
+    let n = usize::from(n);
     if n < ROUTES {
         return n;
     }
@@ -153,11 +193,10 @@ pub fn route_index(n: u8) -> usize
 pub fn route_by(count: u8, n: u8, r: Route) -> Route
     ensures { result ≡ route_by count n r }
 {
-    let n = n as usize;
-    if n < observe::at_most_64(count) {
+    if usize::from(n) < usize::from(count).min(ROUTES) {
         return r;
     }
-    observe::no_route()
+    Route::NONE
 }
 
 // The turnouts that a route names: those that it runs over, of its flank and of its exit zone (SHEET-5).

@@ -1,81 +1,68 @@
 // Small functions on the numbers and records of a station, for its observers and for the crates that read it.
-ghost use Rattle.std.specs.Prelude.{◌≡◌, cond, min, get_or, replicate};
+ghost use Rattle.std.specs.Prelude.{◌≡◌, cond, min, get_or, replicate, ℕ, Bool};
 ghost use Rattle.sets.specs.Sets.{single, union};
-ghost use Rattle.station.specs.Station.{empty_turnout, empty_route};
+ghost use Rattle.station.specs.Station.{empty_turnout, empty_route, turnouts_meeting};
+ghost use Rattle.station.specs.declared.Turnout.{Turnout};
 
 use super::{Route, TURNOUTS, Turnout, ZONES};
 
-pub fn at_most_64(n: u8) -> usize
-    ensures { result ≡ min n 64 }
+// A test of a turnout by its record.
+pub trait TurnoutTest {
+    ghost meets: { Self → Turnout → Bool };
+
+    fn meets(&self, t: Turnout) -> bool
+        ensures { result ≡ meets self.now t };
+}
+
+// The turnouts that meet a test, of p with these records.
+pub fn turnouts_where<T: TurnoutTest>(p: u8, ts: [Turnout; 64], test: &T) -> u64
+    ensures { result ≡ turnouts_meeting (T.meets test.now) p ts }
 {
-    let n = n as usize;
-    if n < TURNOUTS {
-        return n;
+    let mut found: u64 = 0;
+    for i in 0..usize::from(p).min(TURNOUTS) {
+        found = sets::add_if(found, i, test.meets(ts[i]));
     }
-    TURNOUTS
-}
-
-pub fn at_most_8(n: u8) -> usize
-    ensures { result ≡ min n 8 }
-{
-    let n = n as usize;
-    if n < ZONES {
-        return n;
-    }
-    ZONES
-}
-
-// 64 turnout records that are 0.
-pub fn no_turnouts() -> [Turnout; 64]
-    ensures { result ≡ replicate 64 empty_turnout }
-{
-    [Turnout {
-        zone: 0,
-        group: 0,
-        drive: 0,
-    }; 64]
-}
-
-pub fn no_route() -> Route
-    ensures { result ≡ empty_route }
-{
-    Route {
-        zone: 0,
-        over: 0,
-        flank: 0,
-        exits: 0,
-        reverse: 0,
-    }
-}
-
-// 64 route records that are 0.
-pub fn no_routes() -> [Route; 64]
-    ensures { result ≡ replicate 64 empty_route }
-{
-    let r = no_route();
-    [r; 64]
+    found
 }
 
 // The record of a turnout, as stored; every number 0 from 64 on.
 pub fn record_of(ts: [Turnout; 64], n: usize) -> Turnout
     ensures { result ≡ get_or ts n empty_turnout }
 {
-    if n < TURNOUTS {
-        return ts[n];
-    }
-    Turnout {
-        zone: 0,
-        group: 0,
-        drive: 0,
-    }
+    ts.get(n).copied().unwrap_or(Turnout::NONE)
+}
+
+// What stands here until its callers have moved: `usize::from(n).min(TURNOUTS)` and `.min(ZONES)`,
+// `[Turnout::NONE; 64]`, `[Route::NONE; 64]`, `sets::add_if`.
+pub fn at_most_64(n: u8) -> usize
+    ensures { result ≡ min n 64 }
+{
+    usize::from(n).min(TURNOUTS)
+}
+
+pub fn at_most_8(n: u8) -> usize
+    ensures { result ≡ min n 8 }
+{
+    usize::from(n).min(ZONES)
+}
+
+// 64 turnout records that are 0.
+pub fn no_turnouts() -> [Turnout; 64]
+    ensures { result ≡ replicate 64 empty_turnout }
+{
+    [Turnout::NONE; 64]
+}
+
+// 64 route records that are 0.
+pub fn no_routes() -> [Route; 64]
+    ensures { result ≡ replicate 64 empty_route }
+{
+    [Route::NONE; 64]
 }
 
 // The set with turnout n added where the test holds.
 pub fn with_turnout(s: u64, n: usize, test: bool) -> u64
     ensures { result ≡ union s (cond test (single n) 0) }
 {
-    if test {
-        return sets::join(s, sets::only(n));
-    }
-    s
+    sets::add_if(s, n, test)
 }

@@ -1,21 +1,19 @@
 -- The thirteen kinds over one zone: KIND-1 to KIND-13 (docs/RULES.md), row by row. A row is the
 -- list of its checks after 14, in the written order; effects are total functions of the zone and
 -- the message.
-use Rattle.std.specs.Prelude.{Bool, true, cond, not, List, [], ◌∷◌, ℕ, eqb, ltb, get_or}
+use Rattle.std.specs.Prelude.{Bool, true, cond, not, List, [], ◌∷◌, ℕ, eqb, ltb, get_or, None}
 use Rattle.sets.specs.Sets.{single, union}
 use Rattle.station.specs.declared.Station.{Station}
 use Rattle.message.specs.declared.Message.{Message}
 use Rattle.zone.specs.declared.Work.{Work}
 use Rattle.zone.specs.declared.Work.TheVariants.{NoWork}
-use Rattle.zone.specs.declared.Movement.TheVariants.{NoMovement}
 use Rattle.zone.specs.declared.Zone.{Zone}
-use Rattle.zone.specs.declared.Answer.{Answer}
 use Rattle.durations.specs.Minutes.{minutes_between}
 use Rattle.zone.specs.Work.{has_work, is_agreed, manner, work_set, agreed_at}
 use Rattle.zone.specs.Work.{asked_for, agreed_from, opened_to, shut_to, restored_of}
 use Rattle.zone.specs.Movement.{is_ordered, movement_for, cleared_at, keyed_at, ordered_as}
 use Rattle.zone.specs.Trains.{no_place, with_movement, changed_under}
-use Rattle.zone.specs.Zone.{work_of, next_zone, refused_in, settled}
+use Rattle.zone.specs.Zone.{Answer, work_of, next_zone, refused_in, settled}
 use Rattle.rules.specs.declared.Concerned.{Concerned}
 use Rattle.rules.specs.Routes.{its_movement, concerned}
 use Rattle.rules.specs.Clearance.{is_efficient, medium_fits}
@@ -183,8 +181,8 @@ moved kind =
     ∷ (λ z m. with_movement z (movement_for m.id m.d0))
     ∷ (λ z m. changed_under z m.id (cleared_at (its_movement z m) m.d0 (is_efficient m.d1)))
     ∷ (λ z m. changed_under z m.id (ordered_as (its_movement z m) m.d0))
-    ∷ (λ z m. changed_under z m.id NoMovement)
-    ∷ (λ z m. changed_under z m.id NoMovement)
+    ∷ (λ z m. changed_under z m.id None)
+    ∷ (λ z m. changed_under z m.id None)
     ∷ keeps_movements
     ∷ keeps_movements
     ∷ keeps_movements

@@ -4,9 +4,8 @@ use Rattle.station.specs.declared.Route.{Route}
 use Rattle.station.specs.declared.Station.{Station}
 use Rattle.station.specs.Station.{the_route, route_by}
 use Rattle.message.specs.declared.Message.{Message}
-use Rattle.zone.specs.declared.Movement.{Movement}
 use Rattle.zone.specs.declared.Zone.{Zone}
-use Rattle.zone.specs.Movement.{route_for, route_number}
+use Rattle.zone.specs.Movement.{Movement, route_for, route_number}
 use Rattle.zone.specs.Trains.{movement_under}
 use Rattle.rules.specs.declared.Concerned.{Concerned}
 use Rattle.rules.specs.declared.RouteNumbers.{RouteNumbers}

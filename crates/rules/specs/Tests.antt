@@ -7,10 +7,9 @@ use Rattle.station.specs.Station.{route_count, zone_turnouts}
 use Rattle.groups.specs.Groups.{splits}
 use Rattle.message.specs.declared.Message.{Message}
 use Rattle.zone.specs.declared.Work.{Work}
-use Rattle.zone.specs.declared.Movement.{Movement}
 use Rattle.zone.specs.declared.Zone.{Zone}
 use Rattle.zone.specs.Work.{under_form, manner}
-use Rattle.zone.specs.Movement.{is_standing, lack_nothing, worked_turnouts, regime_on, order_refused}
+use Rattle.zone.specs.Movement.{Movement, is_standing, lack_nothing, worked_turnouts, regime_on, order_refused}
 use Rattle.zone.specs.Trains.{named_standing, cleared_standing}
 use Rattle.zone.specs.Zone.{work_of}
 use Rattle.rules.specs.Routes.{its_movement}

@@ -1,4 +1,5 @@
-// Whether a clearance fits its turnout, FIT-1 to FIT-5, and its medium the recorder, KIND-6.5 (docs/RULES.md).
+// Whether a clearance fits its turnout, FIT-1 to FIT-5, and its medium the recorder, KIND-6.5 (docs/RULES.md). What a
+// message says of it is bytes and no enums: they may hold any value, and FIT-1 to FIT-5 answer each.
 ghost use Rattle.std.specs.Prelude.{◌≡◌};
 ghost use Rattle.rules.specs.Clearance.{
   is_efficient,
@@ -74,6 +75,7 @@ fn group_fits(declaration: u8, grouped: bool, covers: u8) -> bool
 }
 
 // Whether a clearance fits its turnout in a route (KIND-6.4).
+#[tactic(auto, unfolding(crate::specs::Clearance::clearance_fits))]
 pub fn clearance_fits(st: Station, r: Route, m: Message) -> bool
     ensures { result ≡ clearance_fits st r m }
 {

@@ -33,7 +33,7 @@ use zone::movements::{is_standing, lack_nothing};
 use zone::regimes::{order_refused, regime, worked_turnouts};
 use zone::trains::{cleared_standing, movement_under, named_standing};
 use zone::works::{manner_of, under_form};
-use zone::{Movement, Work, Zone, work_of};
+use zone::{Passage, Work, Zone, work_of};
 
 // The routes that bear on a message: the one that it asks for, and that of the movement under its id.
 #[derive(Clone, Copy)]
@@ -42,7 +42,8 @@ pub struct Concerned {
     pub its: Route,
 }
 
-// Their numbers; 255 for one that is not there.
+// Their numbers; 255 for one that is not there, and no Option: the law `concerned-by-records` says of any number, 255
+// too, that the record at its index gives the route.
 #[derive(Clone, Copy)]
 pub struct RouteNumbers {
     pub asked: u8,
@@ -118,7 +119,7 @@ pub fn device_under_verbal(w: Work, b: u64) -> bool
 }
 
 // 16 of a clearance and of a key: the turnout is cleared or has a key already (KIND-6.2, KIND-13.2).
-pub fn has_already(v: Movement, n: u8) -> bool
+pub fn has_already(v: Option<Passage>, n: u8) -> bool
     ensures { result ≡ has_already v n }
 {
     sets::contains(lack_nothing(v), n as usize)
@@ -146,7 +147,7 @@ pub fn key_misfit(r: Route, n: u8, key: u8) -> bool
 }
 
 // 22 of an order: the regime on the route forbids it (KIND-7.3).
-pub fn order_forbidden(r: Route, w: Work, v: Movement, order: u8) -> bool
+pub fn order_forbidden(r: Route, w: Work, v: Option<Passage>, order: u8) -> bool
     ensures { result ≡ order_forbidden r w v order }
 {
     order_refused(order, regime(r, w, v))

@@ -4,7 +4,7 @@
 #![tactic(auto)]
 
 ghost use Rattle.std.specs.Prelude.{◌≡◌};
-ghost use Rattle.case_rows.specs.Rows.{byte_at, after, after_letter, after_name, name_at, with_digit, number_at};
+ghost use Rattle.case_rows.specs.Rows.{repeated, byte_at, after, after_letter, after_name, name_at, with_digit, number_at};
 ghost use Rattle.case_rows.specs.Rows.{towards_end, after_line, with_byte, with_pair, with_pairs};
 
 // A number, and the place after it.
@@ -19,17 +19,14 @@ pub struct Parsed {
 pub fn byte_at(text: &[u8], at: usize) -> u8
     ensures { result ≡ byte_at text.now at }
 {
-    if at < text.len() {
-        return text[at];
-    }
-    b'\n'
+    text.get(at).copied().unwrap_or(b'\n')
 }
 
 // The next place.
 pub fn after(at: usize) -> usize
     ensures { result ≡ after at }
 {
-    std::num::wrapping_add_usize(at, 1)
+    at.wrapping_add(1)
 }
 
 // The next place, if the byte at this one is part of a name; else this place.
@@ -43,17 +40,24 @@ fn after_letter(text: &[u8], at: usize) -> usize
     after(at)
 }
 
+// n steps, one after another.
+fn repeated<T, F: Fn(T) -> T>(n: u8, start: T, step: F) -> T
+    requires { F.IsAlwaysCallable step }
+    ensures { (f : T → T) → ((x y : T) → F.post step x y → y ≡ f x) → result ≡ repeated n f start }
+{
+    let mut reached = start;
+    for _ in 0..n {
+        reached = step(reached);
+    }
+    reached
+}
+
 // The place after the name at a place; a name has at most 40 bytes.
+#[tactic(auto, unfolding(crate::specs::Rows::after_name))]
 pub fn after_name(text: &[u8], at: usize) -> usize
     ensures { result ≡ after_name text.now at }
 {
-    let mut next = at;
-    let mut i: usize = 0;
-    while i < 40 {
-        next = after_letter(text, next);
-        i += 1;
-    }
-    next
+    repeated(40, at, |next| after_letter(text, next))
 }
 
 // The name at a place, as that part of the text; an empty part past the end.
@@ -73,32 +77,25 @@ fn with_digit(text: &[u8], n: Parsed) -> Parsed
     ensures { result ≡ with_digit text.now n }
 {
     let b = byte_at(text, n.next);
-    if b < b'0' {
-        return n;
-    }
-    if b > b'9' {
+    if !b.is_ascii_digit() {
         return n;
     }
     Parsed {
-        value: n.value % 1000 * 10 + (b - b'0') as u16,
+        value: n.value % 1000 * 10 + u16::from(b - b'0'),
         next: after(n.next),
     }
 }
 
 // The number of at most 4 digits that stands after the space at a place.
+#[tactic(auto, unfolding(crate::specs::Rows::number_at))]
 pub fn number_at(text: &[u8], at: usize) -> Parsed
     ensures { result ≡ number_at text.now at }
 {
-    let mut n = Parsed {
+    let none = Parsed {
         value: 0,
         next: after(at),
     };
-    let mut i: usize = 0;
-    while i < 4 {
-        n = with_digit(text, n);
-        i += 1;
-    }
-    n
+    repeated(4, none, |n| with_digit(text, n))
 }
 
 // The same place if a line ends there, else the next one.
@@ -113,16 +110,11 @@ fn towards_end(text: &[u8], at: usize) -> usize
 }
 
 // The place after a line of at most 200 bytes.
+#[tactic(auto, unfolding(crate::specs::Rows::after_line))]
 pub fn after_line(text: &[u8], at: usize) -> usize
     ensures { result ≡ after_line text.now at }
 {
-    let mut next = at;
-    let mut i: usize = 0;
-    while i < 200 {
-        next = towards_end(text, next);
-        i += 1;
-    }
-    after(next)
+    after(repeated(200, at, |next| towards_end(text, next)))
 }
 
 // Stores a byte, if there is such a place.
@@ -145,7 +137,7 @@ fn put_pair(s: &mut [u8], input: &[u8], at: usize) -> usize
     }
     let place = number_at(input, at);
     let value = number_at(input, place.next);
-    put(s, place.value as usize, (value.value % 256) as u8);
+    put(s, usize::from(place.value), (value.value % 256) as u8);
     value.next
 }
 
@@ -155,10 +147,8 @@ pub fn put_pairs(s: &mut [u8], input: &[u8], at: usize) -> usize
         ≡ with_pairs s.old input.now at }
 {
     let mut next = at;
-    let mut i: usize = 0;
-    while i < 16 {
+    for _ in 0..16u8 {
         next = put_pair(s, input, next);
-        i += 1;
     }
     next
 }

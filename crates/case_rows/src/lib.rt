@@ -7,6 +7,10 @@ ghost use Rattle.std.specs.Prelude.{◌≡◌};
 ghost use Rattle.case_rows.specs.Rows.{repeated, byte_at, after, after_letter, after_name, name_at, with_digit, number_at};
 ghost use Rattle.case_rows.specs.Rows.{towards_end, after_line, with_byte, with_pair, with_pairs};
 
+pub use row::Row;
+
+mod row;
+
 // A number, and the place after it.
 #[derive(Clone, Copy)]
 pub struct Parsed {

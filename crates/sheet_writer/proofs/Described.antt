@@ -14,7 +14,7 @@ use Rattle.station.specs.declared.Station.{Station}
 use Rattle.station.specs.Station.{empty_turnout, empty_route}
 use Rattle.layout.specs.Layout.{counts_kept}
 use Rattle.layout.proofs.Joined.{three, four, five}
-use Rattle.sheet.specs.declared.Sheet.{Sheet}
+use Rattle.sheet.specs.Sheet.{Sheet}
 use Rattle.sheet.specs.Accepted.{Passed}
 use Rattle.sheet.specs.Sheet.{judged}
 use Rattle.layout.proofs.Counts.{counts-in-range, counts-kept}

@@ -14,7 +14,7 @@ use Rattle.bigendian.specs.BigEndian.{Bytes}
 use Rattle.bigendian.proofs.Places.{sets-whole}
 use Rattle.station.specs.declared.Station.{Station}
 use Rattle.layout.specs.Layout.{header_number, version, station_in}
-use Rattle.sheet.specs.declared.Sheet.{Sheet}
+use Rattle.sheet.specs.Sheet.{Sheet}
 use Rattle.partner_records.specs.PartnerRecords.{renumbered}
 use Rattle.sheet.specs.Sheet.{read_sheet, meant}
 use Rattle.layout.proofs.Counts.{counts-kept}

@@ -3,7 +3,7 @@ use Rattle.std.specs.Prelude.{Bool, cond, not, ◌&&◌, List, ℕ, eqb, ltb, le
 use Rattle.std.proofs.lemmas.List.Edits.{sets}
 use Rattle.station.specs.declared.Station.{Station}
 use Rattle.layout.specs.Layout.{counts_kept, sheet_length}
-use Rattle.sheet.specs.declared.Finding.{Finding}
+use Rattle.sheet.specs.Sheet.{Finding}
 use Rattle.sheet.specs.Sheet.{judged, read_sheet, finding_of}
 use Rattle.sheet_bytes.specs.SheetBytes.{sheet_bytes}
 use Rattle.sheet_writer.specs.Past.{turnouts_end, routes_end}

@@ -5,8 +5,7 @@ use Prim.Native.Nat.{ℕ, ◌+◌, ◌≤◌}
 use native.Mathlib.Nat.{zero-add}
 use native.Mathlib.Omega.{arith}
 use lib.ListN.{length, take, drop}
-use lib.Seq.{sets, sets-eq, length-take-le}
-use Rattle.files.specs.Counts.{IsPrefixLen}
+use lib.Seq.{sets, sets-eq}
 use Rattle.report.specs.Text.{Filled, put_all}
 use Rattle.report.proofs.Filling.{put-within}
 use Rattle.desk_text.specs.Printed.{printed}
@@ -16,14 +15,13 @@ use Rattle.printing.specs.Files.{whole_text}
 
 -- the text of what the buffers hold is the whole text of the files
 pub whole :
-    (sheet : List ℕ) (n : ℕ) (journal : List ℕ) (m : ℕ) (out s j : List ℕ)
-    → 4096 ≤ length sheet → 32784 ≤ length journal → 33792 ≤ length out
-    → take n sheet ≡ take (length sheet) s → take m journal ≡ take (length journal) j
-    → put_all out 0 (printed (take n sheet) (take m journal)) ≡ whole_text out (printed s j)
-whole sheet n journal m out s j sheet-room journal-room out-room sheet-holds journal-holds =
-    let same : printed (take n sheet) (take m journal) ≡ printed s j =
-    ap₂ printed sheet-holds journal-holds
-    ∙ cut-anywhere (length sheet) (length journal) s j sheet-room journal-room in
+    (n : ℕ) (sheet : List ℕ) (m : ℕ) (journal out s j : List ℕ)
+    → 4096 ≤ n → 32784 ≤ m → 33792 ≤ length out
+    → sheet ≡ take n s → journal ≡ take m j
+    → put_all out 0 (printed sheet journal) ≡ whole_text out (printed s j)
+whole n sheet m journal out s j sheet-room journal-room out-room sheet-holds journal-holds =
+    let same : printed sheet journal ≡ printed s j =
+    ap₂ printed sheet-holds journal-holds ∙ cut-anywhere n m s j sheet-room journal-room in
     let text = printed s j in
     let short = text-fits s j in
     let fits : 0 + length text ≤ length out = omega (arith, short, out-room) in
@@ -39,7 +37,3 @@ pub within : (out bs : List ℕ) (f : Filled) → f ≡ put_all out 0 bs → f.p
 within out bs f e =
     let ends = put-within out 0 bs (omega arith) in
     subst (λ (g : Filled). g.place ≤ length g.bytes) (sym e) ends
-
--- a bound on a count gives the length of what it counts
-pub prefix_len_of_le : (n : ℕ) (xs : List ℕ) → n ≤ length xs → IsPrefixLen n xs
-prefix_len_of_le n xs h = (h, sym (length-take-le n xs h))

@@ -3,9 +3,9 @@ use Rattle.std.specs.Prelude.{List, ◌++◌, ◌≡◌, ℕ, length, take, drop
 use Rattle.report.specs.Text.{Filled}
 use Rattle.desk_text.specs.Printed.{printed}
 
--- The first n bytes of a buffer are a file's, as far as the buffer holds it.
-abbrev pub Holds : List ℕ → ℕ → List ℕ → Type 0
-Holds buffer n file = take n buffer ≡ take (length buffer) file
+-- These bytes are a file's, as far as a buffer of that room holds it.
+abbrev pub Holds : ℕ → List ℕ → List ℕ → Type 0
+Holds room bytes file = bytes ≡ take room file
 
 -- the whole text, what a buffer has past it, and the text's length
 abbrev pub whole_text : List ℕ → List ℕ → Filled
@@ -13,7 +13,7 @@ whole_text out text = record { place = length text; bytes = text ++ drop (length
 
 -- Whatever files two buffers hold so far as they go, this is the whole text of these files: nothing
 -- of it is cut, and what the buffers cut off the files changes nothing.
-abbrev pub TextOfFiles : List ℕ → ℕ → List ℕ → ℕ → List ℕ → Filled → Type 0
-TextOfFiles sheet n journal m out text =
-    (sheet-file journal-file : List ℕ) → Holds sheet n sheet-file → Holds journal m journal-file
+abbrev pub TextOfFiles : ℕ → List ℕ → ℕ → List ℕ → List ℕ → Filled → Type 0
+TextOfFiles n sheet m journal out text =
+    (sheet-file journal-file : List ℕ) → Holds n sheet sheet-file → Holds m journal journal-file
     → text ≡ whole_text out (printed sheet-file journal-file)

@@ -3,8 +3,7 @@
 // all of it, and that printing is safe and ends.
 #![tactic(auto)]
 
-ghost use Rattle.std.specs.Prelude.{◌≤◌, length};
-ghost use Rattle.files.specs.Counts.{IsPrefixLen};
+ghost use Rattle.std.specs.Prelude.{◌≤◌};
 ghost use Rattle.printing.specs.Files.{TextOfFiles};
 
 use std::io;
@@ -16,18 +15,28 @@ const SHEET: usize = 4096;
 // Room for a journal of 1,024 records.
 const JOURNAL: usize = 32784;
 
-// Puts the text of the files that stand in the first n and m bytes of the buffers, and says how many bytes it takes.
-fn text_of_files(sheet: &[u8], n: usize, journal: &[u8], m: usize, out: &mut [u8]) -> usize
-    requires in_bounds { 4096 ≤ length sheet.now }
-    requires prefix_len { IsPrefixLen n sheet.now }
-    requires in_bounds_2 { 32784 ≤ length journal.now }
-    requires prefix_len_2 { IsPrefixLen m journal.now }
-    requires in_bounds_3 { 33792 ≤ length out.old }
-    ensures text_of_files { TextOfFiles sheet.now n journal.now m out.old
+// Room for the text.
+const TEXT: usize = desk_text::ROOM;
+
+// What a buffer of that room holds of a file.
+#[derive(Clone, Copy)]
+struct Held<'a, const ROOM: usize>(&'a [u8]);
+
+fn read<'a, const ROOM: usize>(
+    rt: &impl Files,
+    name: &[u8],
+    buf: &'a mut [u8; ROOM],
+) -> Held<'a, ROOM> {
+    Held(files::read_file(rt, name, buf))
+}
+
+// Puts the text of the files, and says how many bytes it takes.
+fn text_of_files(sheet: Held<SHEET>, journal: Held<JOURNAL>, out: &mut [u8; TEXT]) -> usize
+    ensures text { TextOfFiles SHEET sheet.entry.0.now JOURNAL journal.entry.0.now out.old
         (record { place = result; bytes = out.new }) }
-    ensures prefix_len_3 { IsPrefixLen result out.new }
+    ensures within { result ≤ TEXT }
 {
-    desk_text::put_text(&sheet[..n], &journal[..m], out)
+    desk_text::put_text(sheet.0, journal.0, out)
 }
 
 // Prints the text of the files with these names; a file that cannot be read counts as empty (PROGRAM-2).
@@ -38,9 +47,9 @@ pub fn print_files(
 ) -> io::Result<()> {
     let mut sheet = [0u8; SHEET];
     let mut journal = [0u8; JOURNAL];
-    let mut out = [0u8; desk_text::ROOM];
-    let n = files::read_file(rt, sheet_name, &mut sheet);
-    let m = files::read_file(rt, journal_name, &mut journal);
-    let text = text_of_files(&sheet, n, &journal, m, &mut out);
+    let mut out = [0u8; TEXT];
+    let sheet = read(rt, sheet_name, &mut sheet);
+    let journal = read(rt, journal_name, &mut journal);
+    let text = text_of_files(sheet, journal, &mut out);
     rt.write_all(&out[..text])
 }

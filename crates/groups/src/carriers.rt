@@ -1,57 +1,48 @@
 // The turnouts that carry a group's number, 0 to 31, of so many turnouts with their records (SHEET-3 and VALUE-2 of
 // docs/RULES.md).
-ghost use Rattle.std.specs.Prelude.{◌≡◌, cond, ◌&&◌, ltb};
-ghost use Rattle.sets.specs.Sets.{single, union};
+ghost use Rattle.std.specs.Prelude.{◌≡◌, eqb};
 ghost use Rattle.sets.specs.Table.{places};
 ghost use Rattle.groups.specs.Groups.{carriers_among, group_sets, tied_in, tied_among};
 
-use station::Turnout;
-use station::observe::{at_most_64, with_turnout};
+use station::observe::{TurnoutTest, turnouts_where};
+use station::{TURNOUTS, Turnout};
 
 // The numbers of groups, from 0 on.
 pub const GROUPS: u8 = 32;
 
+// The test that a turnout carries a number.
+#[derive(Drop)]
+struct Carries {
+    number: u8,
+}
+
+impl TurnoutTest for Carries {
+    ghost meets = { λ test t. eqb t.group test.number };
+
+    fn meets(&self, t: Turnout) -> bool {
+        t.group == self.number
+    }
+}
+
 // The turnouts that carry a number.
+#[tactic(auto, unfolding(crate::specs::Groups::carriers_among, station::specs::Station::turnouts_meeting))]
 pub fn carriers_of(p: u8, ts: [Turnout; 64], g: u8) -> u64
     ensures { result ≡ carriers_among p ts g }
 {
-    let count = at_most_64(p);
-    let mut found: u64 = 0;
-    let mut i: usize = 0;
-    while i < count {
-        let t = ts[i];
-        found = with_turnout(found, i, t.group == g);
-        i += 1;
-    }
-    found
-}
-
-// The set of group numbers with g added where the test holds; a number that is no group's is not added.
-pub fn with_number(s: u64, g: u8, test: bool) -> u64
-    ensures { result ≡ union s (cond (test && ltb g 32) (single g) 0) }
-{
-    if test & (g < GROUPS) {
-        return sets::join(s, sets::only(g as usize));
-    }
-    s
+    turnouts_where(p, ts, &Carries { number: g })
 }
 
 // The sets of the groups, in one pass over the turnouts.
 pub fn group_sets(p: u8, ts: [Turnout; 64]) -> [u64; 32]
     ensures { result ≡ group_sets p ts }
 {
-    let limit = at_most_64(p);
-    let mut gs: [u64; 32] = [0; 32];
-    let mut i: usize = 0;
-    while i < limit {
-        let t = ts[i];
-        let at = t.group as usize;
+    let mut gs = [0u64; 32];
+    for i in 0..usize::from(p).min(TURNOUTS) {
+        let at = usize::from(ts[i].group);
         if at >= 32 {
-            i += 1;
             continue;
         }
         gs[at] = sets::join(gs[at], sets::only(i));
-        i += 1;
     }
     gs
 }
@@ -60,7 +51,7 @@ pub fn group_sets(p: u8, ts: [Turnout; 64]) -> [u64; 32]
 fn tied_in(gs: &[u64; 32], n: usize, g: u8) -> u64
     ensures { result ≡ tied_in gs.now n g }
 {
-    let at = g as usize;
+    let at = usize::from(g);
     if at < 32 {
         return gs[at];
     }
@@ -71,14 +62,10 @@ fn tied_in(gs: &[u64; 32], n: usize, g: u8) -> u64
 pub fn ties(p: u8, ts: [Turnout; 64]) -> [u64; 64]
     ensures { result ≡ places (tied_among p ts) p 0 }
 {
-    let n = at_most_64(p);
     let gs = group_sets(p, ts);
-    let mut out: [u64; 64] = [0; 64];
-    let mut i: usize = 0;
-    while i < n {
-        let t = ts[i];
-        out[i] = tied_in(&gs, i, t.group);
-        i += 1;
+    let mut out = [0u64; 64];
+    for i in 0..usize::from(p).min(TURNOUTS) {
+        out[i] = tied_in(&gs, i, ts[i].group);
     }
     out
 }

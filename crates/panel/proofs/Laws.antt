@@ -2,17 +2,21 @@
 use mathlib.Core.Bool.{Bool, true, false, cond, not, ◌&&◌, and-false, and-eq-true_iff}
 use mathlib.Core.List.{List}
 use mathlib.Core.Logic.{◌≢◌, ◌⊎◌, inl, inr}
-use mathlib.Core.Path.{◌≡◌, refl, ap}
+use mathlib.Core.Path.{◌≡◌, refl, sym, ap, ◌∙◌}
 use Prim.Native.Nat.{ℕ, ◌≤◌, ◌<◌}
 use native.Mathlib.Omega.{arith}
-use borrow.Author.Tests.{leb-true, leb-false, lt-leb, le-ltb, ltb-false}
+use borrow.Author.Tests.{leb-true, leb-false, lt-leb, le-ltb, ltb-false, ne_eqb}
 use lib.Dec.{eqb, ltb, leb}
 use lib.ListN.{length}
 use Rattle.layout.specs.Layout.{has_mark, version, version_kept, count_p, count_r, count_z, within_limits}
 use Rattle.layout.specs.Layout.{counts_kept, length_number, header_number, station_in}
 use Rattle.layout.proofs.Header.{header-most}
 use Rattle.partner_records.specs.PartnerRecords.{renumbered}
-use Rattle.sheet.specs.Sheet.{refused_sheet, after_header, read_sheet}
+use Rattle.std.specs.Prelude.{Err}
+use Rattle.refusals.specs.declared.Refusal.{Refusal}
+use Rattle.refusals.specs.Numbers.{number_of}
+use Rattle.layout.proofs.Refused.{some-number, no-index}
+use Rattle.sheet.specs.Sheet.{refused_sheet, sheet_of, after_header, read_sheet}
 use Rattle.layout.proofs.Counts.{counts-in-range, counts-kept}
 use Rattle.sheet.proofs.Accepted.{headed, station-of}
 use Rattle.sheet.proofs.Judging.{code-most}
@@ -88,7 +92,7 @@ module _ (s : List ℕ) where
   never-by-the-desk e = omega (arith, code-most s, e)
 
   -- the number decides the answer: the refusal by 9, or the desk's
-  pub answer-nine : panel_number s ≡ 9 → read_panel_sheet s ≡ refused_sheet 9 0
+  answer-nine : panel_number s ≡ 9 → read_panel_sheet s ≡ refused_sheet 9 0
   unfolding read_panel_sheet
   answer-nine e = rw e
 
@@ -101,6 +105,19 @@ module _ (s : List ℕ) where
     | inl o ↦ absurd (other (nine-over o))
     | inr a ↦ answer-alike a
   ]
+
+  -- a refusal by the panel's number, which is no record's
+  pub answer-refused : (e : Refusal) → number_of e ≡ panel_number s → sheet_of (Err e) ≡ read_panel_sheet s
+  unfolding read_panel_sheet
+  answer-refused e h =
+      let some = some-number e in
+      rw (← h, no-index e (λ q. other 5 (omega arith) (omega arith) (sym h ∙ q)) (λ q. other 6 (omega arith) (omega arith) (sym h ∙ q)), ne_eqb (number_of e) 0 (λ q. omega arith))
+    where
+      other : (n : ℕ) → 4 < n → n ≢ 9 → panel_number s ≢ n
+      other n more not-nine q = elim over-or-alike [
+        | inl o ↦ not-nine (sym q ∙ nine-over o)
+        | inr a ↦ omega (arith, header-most s, a.number, q)
+      ]
 
   -- the laws past the limits
   laws-over : OverLimits s → PanelLaws s (read_panel_sheet s) (read_sheet s)

@@ -2,7 +2,7 @@
 -- (docs/RULES.md). The claim stands at the end; proofs/Laws.antt proves it.
 use Rattle.std.specs.Prelude.{true, List, ◌≢◌, ◌⊎◌, ◌↔◌, ◌≡◌, ℕ, ◌≤◌, ◌<◌, length}
 use Rattle.layout.specs.Layout.{has_mark, version, version_kept, count_p, count_r, station_in}
-use Rattle.sheet.specs.declared.Sheet.{Sheet}
+use Rattle.sheet.specs.Sheet.{Sheet}
 use Rattle.layout.specs.Counts.{GoodCounts}
 use Rattle.sheet.specs.Sheet.{read_sheet, refused_sheet}
 use Rattle.panel.specs.Panel.{read_panel_sheet}

@@ -2,7 +2,7 @@
 -- but for one check between counts and length.
 use Rattle.std.specs.Prelude.{Bool, cond, not, List, ℕ}
 use Rattle.layout.specs.Layout.{count_p, count_r, within_limits, before_length, length_number}
-use Rattle.sheet.specs.declared.Sheet.{Sheet}
+use Rattle.sheet.specs.Sheet.{Sheet}
 use Rattle.sheet.specs.Sheet.{after_header}
 
 -- PANEL-1: "it has lamps for 16 turnouts and 8 routes only"

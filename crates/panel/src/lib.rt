@@ -3,39 +3,38 @@
 #![tactic(auto)]
 
 ghost use Rattle.std.specs.Prelude.{◌≡◌};
+ghost use Rattle.refusals.specs.Numbers.{code_of};
+ghost use Rattle.sheet.specs.Sheet.{sheet_of};
 ghost use Rattle.panel.specs.Panel.{panel_number, read_panel_sheet};
 
-use sheet::Sheet;
-use station::first_code;
+use refusals::{Refusal, refuse_if};
+use station::Station;
 
 // The most turnouts and routes that a panel has lamps for (PANEL-1).
 pub const TURNOUTS: u8 = 16;
 
 pub const ROUTES: u8 = 8;
 
-// The number that refuses a sheet with more of them (PANEL-2).
-pub const OVER_LIMITS: u8 = 9;
-
-// 0 if the header and the length are good for a panel, else the first number of 1, 2, 3, 4, 9, 1 that fits (PANEL-2).
-#[tactic(auto, unfolding(crate::specs::Panel::panel_number))]
-fn panel_code(s: &[u8]) -> u8
-    ensures { result ≡ panel_number s.now }
+// The checks of the header and of the length, in the panel's order: its limits after the counts (PANEL-2).
+#[tactic(auto, using(layout::proofs::Refused::header_order), unfolding(crate::specs::Panel::panel_number))]
+fn check_header(s: &[u8]) -> Result<(), Refusal>
+    ensures { code_of result ≡ panel_number s.now }
 {
+    layout::before_length(s)?;
     let within = layout::within_limits(
         TURNOUTS,
         ROUTES,
         bigendian::get8(s, 5),
         bigendian::get8(s, 6),
     );
-    layout::before_length(s, first_code(!within, OVER_LIMITS, layout::length_code(s)))
+    refuse_if(!within, Refusal::OverLimits)?;
+    layout::check_length(s)
 }
 
 // Reads a sheet for a panel: where its limits are not passed, the desk's answer is the panel's (PANEL-3).
-pub fn read_panel_sheet(s: &[u8]) -> Sheet
-    ensures { result ≡ read_panel_sheet s.now }
+pub fn read_panel_sheet(s: &[u8]) -> Result<Station, Refusal>
+    ensures { sheet_of result ≡ read_panel_sheet s.now }
 {
-    if panel_code(s) == OVER_LIMITS {
-        return sheet::judge::refused(OVER_LIMITS, 0);
-    }
+    check_header(s)?;
     sheet::read_sheet(s)
 }

@@ -10,5 +10,5 @@ ghost use Rattle.packing.specs.Bytes.{two_packed};
 pub fn two_packed(low: u8, next: u8) -> u32
     ensures { result ≡ two_packed low next }
 {
-    (low as u32) + 256 * (next as u32)
+    u32::from(low) + 256 * u32::from(next)
 }

@@ -1,5 +1,5 @@
 // Small functions on the numbers and records of a station, for its observers and for the crates that read it.
-ghost use Rattle.std.specs.Prelude.{◌≡◌, cond, min, get_or, replicate, ℕ, Bool};
+ghost use Rattle.std.specs.Prelude.{◌≡◌, cond, min, get_or, replicate, Bool};
 ghost use Rattle.sets.specs.Sets.{single, union};
 ghost use Rattle.station.specs.Station.{empty_turnout, empty_route, turnouts_meeting};
 ghost use Rattle.station.specs.declared.Turnout.{Turnout};

@@ -125,9 +125,7 @@ pub fn after_line(text: &[u8], at: usize) -> usize
 pub fn put(s: &mut [u8], at: usize, value: u8)
     ensures { s.new ≡ with_byte s.old at value }
 {
-    if at < s.len() {
-        s[at] = value;
-    }
+    bigendian::put(s, at, value);
 }
 
 // Stores the damage at a place, if there is more; the place after it.
@@ -141,7 +139,7 @@ fn put_pair(s: &mut [u8], input: &[u8], at: usize) -> usize
     }
     let place = number_at(input, at);
     let value = number_at(input, place.next);
-    put(s, usize::from(place.value), (value.value % 256) as u8);
+    bigendian::put(s, usize::from(place.value), (value.value % 256) as u8);
     value.next
 }
 

@@ -31,7 +31,7 @@ pub extern "C" fn trial_write_sheet(values: &[u8], buffer: &mut [u8]) -> u8
     ensures { record { code = result; bytes = buffer.new }
         ≡ written_sheet (station_of values.now) buffer.old }
 {
-    sheet_writer::write_sheet(station_of(values), buffer)
+    refusals::code(sheet_writer::write_sheet(station_of(values), buffer))
 }
 
 // Whether a set splits a group of the station with these numbers: 1 for yes.
@@ -39,5 +39,5 @@ pub extern "C" fn trial_write_sheet(values: &[u8], buffer: &mut [u8]) -> u8
 pub extern "C" fn trial_splits(values: &[u8], set: u64) -> u8
     ensures { result ≡ number_if (splits (station_of values.now) set) 1 0 }
 {
-    station::first_code(groups::splits_group(station_of(values), set), 1, 0)
+    u8::from(groups::splits_group(station_of(values), set))
 }

@@ -5,11 +5,14 @@
 ghost use Rattle.std.specs.Prelude.{◌≡◌};
 ghost use Rattle.works_desk_panel.specs.Packed.{panel_packed};
 
+use refusals::Refusal;
+
 // Reads a sheet for a panel: its code, and 256 times the index of the bad record.
 #[unsafe(no_mangle)]
 pub extern "C" fn panel_sheet(sheet: &[u8]) -> u32
     ensures { result ≡ panel_packed sheet.now }
 {
     let read = panel::read_panel_sheet(sheet);
-    packing::two_packed(read.code, read.index)
+    let index = read.err().map_or(0, Refusal::index);
+    packing::two_packed(refusals::code(read), index)
 }

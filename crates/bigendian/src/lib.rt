@@ -1,5 +1,5 @@
-// Big-endian numbers of 16, 32 and 64 bits at any place of a buffer: SET-3 (docs/RULES.md). Every function is total: a
-// byte past the end reads as 0 and is not stored. The rules are in specs/BigEndian.antt, the laws over the width in
+// Big-endian numbers of 8, 16, 32 and 64 bits at any place of a buffer: SET-3 (docs/RULES.md). Every function is total:
+// a byte past the end reads as 0 and is not stored. The rules are in specs/BigEndian.antt, the laws over the width in
 // proofs/.
 #![tactic(auto)]
 
@@ -7,20 +7,22 @@ ghost use Rattle.std.specs.Prelude.{◌≡◌, ◌≤◌, ◌<◌, ◌%◌, ◌^
 ghost use Rattle.bigendian.specs.BigEndian.{byte_at, with_byte, number_at, stored_at};
 ghost use Rattle.std.proofs.Common.{rules};
 
-// A number type that is kept in whole bytes.
+// A number type that is kept in so many whole bytes, at most 8.
 pub trait Number: Copy {
-    // What number a value is; what it is to read one at a place of a buffer, and to store one there.
-    ghost value: { Self → ℕ };
-
-    ghost at_place: { List ℕ → ℕ → ℕ };
-
-    ghost with_number: { List ℕ → ℕ → ℕ → List ℕ };
-
     const BYTES: usize;
 
     ghost BYTES: { ℕ };
 
-    // The low bytes of a wider number.
+    // What number a value is.
+    ghost value: { Self → ℕ };
+
+    // The number at a place of a buffer, and the buffer with one stored at a place: for a single byte `byte_at` and
+    // `with_byte`, which are the same.
+    ghost at_place: { List ℕ → ℕ → ℕ };
+
+    ghost with_number: { List ℕ → ℕ → ℕ → List ℕ };
+
+    // The number in the low bytes of a wider one.
     fn low(n: u64) -> Self
         ensures { value result ≡ n % 256 ^ BYTES };
 
@@ -36,15 +38,15 @@ pub trait Number: Copy {
 }
 
 impl Number for u8 {
+    const BYTES: usize = 1;
+
+    ghost BYTES = { 1 };
+
     ghost value = { λ n. n };
 
     ghost at_place = { byte_at };
 
     ghost with_number = { with_byte };
-
-    const BYTES: usize = 1;
-
-    ghost BYTES = { 1 };
 
     fn low(n: u64) -> u8 {
         (n % 256) as u8
@@ -62,15 +64,15 @@ impl Number for u8 {
 }
 
 impl Number for u16 {
+    const BYTES: usize = 2;
+
+    ghost BYTES = { 2 };
+
     ghost value = { λ n. n };
 
     ghost at_place = { number_at 2 };
 
     ghost with_number = { stored_at 2 };
-
-    const BYTES: usize = 2;
-
-    ghost BYTES = { 2 };
 
     fn low(n: u64) -> u16 {
         (n % 65536) as u16
@@ -88,15 +90,15 @@ impl Number for u16 {
 }
 
 impl Number for u32 {
+    const BYTES: usize = 4;
+
+    ghost BYTES = { 4 };
+
     ghost value = { λ n. n };
 
     ghost at_place = { number_at 4 };
 
     ghost with_number = { stored_at 4 };
-
-    const BYTES: usize = 4;
-
-    ghost BYTES = { 4 };
 
     fn low(n: u64) -> u32 {
         (n % 4294967296) as u32
@@ -114,15 +116,15 @@ impl Number for u32 {
 }
 
 impl Number for u64 {
+    const BYTES: usize = 8;
+
+    ghost BYTES = { 8 };
+
     ghost value = { λ n. n };
 
     ghost at_place = { number_at 8 };
 
     ghost with_number = { stored_at 8 };
-
-    const BYTES: usize = 8;
-
-    ghost BYTES = { 8 };
 
     fn low(n: u64) -> u64 {
         n

@@ -38,8 +38,9 @@ pub enum Work {
     Agreed(Agreement),
 }
 
-// The movement of a zone, where one stands (ZONE-1, FORM-6; none: `None`): its train, its route, the order given (0 none, 1 clear, 2 danger), the turnouts cleared for
-// it, those of them whose declaration means all efficient, and the turnouts on which a release key was used for it.
+// A movement that stands: its train, its route, the order given (0 none, 1 clear, 2 danger), the turnouts cleared for
+// it, those of them whose declaration means all efficient, and the turnouts on which a release key was used for it. An
+// order and a manner stay bytes: those of a stored desk may hold any value (UNIT-2, VALUE-7, VALUE-9).
 #[derive(Clone, Copy)]
 pub struct Passage {
     pub cleared: u64,
@@ -71,7 +72,8 @@ impl From<Regime> for u8 {
     }
 }
 
-// A zone; the recorder is true while it works (ZONE-1, FORM-6).
+// A zone: its work, its movement if one stands, its last accepted time, and its recorder, true while it works (ZONE-1,
+// FORM-6).
 #[derive(Clone, Copy)]
 pub struct Zone {
     pub work: Work,

@@ -1,6 +1,6 @@
 // The movement of a zone: what it says, and what messages do to it (the effects of KIND-5 to KIND-7 and KIND-13,
 // docs/RULES.md).
-ghost use Rattle.std.specs.Prelude.{◌≡◌, cond};
+ghost use Rattle.std.specs.Prelude.{◌≡◌};
 ghost use Rattle.zone.specs.Movement.{
   is_standing,
   under_train,
@@ -19,7 +19,6 @@ ghost use Rattle.zone.specs.Movement.{
   keyed_at,
   ordered_as,
 };
-ghost use Rattle.sets.specs.Sets.{single};
 
 use super::Passage;
 use station::{Route, Station};
@@ -90,7 +89,7 @@ pub fn route_for(st: Station, v: Option<Passage>) -> Route
     ensures { result ≡ route_for st v }
 {
     match v {
-        None => station::route_none(),
+        None => Route::NONE,
         Some(p) => station::route_of(st, p.route as usize),
     }
 }
@@ -123,23 +122,13 @@ pub fn movement_for(train: u32, route: u8) -> Option<Passage>
     })
 }
 
-// The set of a turnout where the test holds.
-fn only_if(test: bool, n: usize) -> u64
-    ensures { result ≡ cond test (single n) 0 }
-{
-    if test {
-        return sets::only(n);
-    }
-    0
-}
-
 // The movement with a clearance for turnout n (KIND-6.6).
 pub fn cleared_at(v: Option<Passage>, n: u8, efficient: bool) -> Option<Passage>
     ensures { result ≡ cleared_at v n efficient }
 {
     v.map(|p| Passage {
         cleared: sets::join(p.cleared, sets::only(n as usize)),
-        efficient: sets::join(p.efficient, only_if(efficient, n as usize)),
+        efficient: sets::add_if(p.efficient, n as usize, efficient),
         ..p
     })
 }

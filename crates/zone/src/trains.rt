@@ -1,7 +1,5 @@
 // The movements of a zone, by train: what they say, and what messages do to them. A zone has one place for a movement
 // (ZONE-1 of docs/RULES.md).
-#![tactic(auto, unfolding(crate::specs::Trains::movement_under, crate::specs::Trains::no_place, crate::specs::Trains::named_standing, crate::specs::Trains::cleared_standing, crate::specs::Trains::placed, crate::specs::Trains::changed,))]
-
 ghost use Rattle.std.specs.Prelude.{◌≡◌};
 ghost use Rattle.zone.specs.Trains.{
   movement_under,
@@ -17,6 +15,7 @@ use super::{Passage, Zone};
 use station::Station;
 
 // The movement under this train, or none.
+#[tactic(auto, unfolding(crate::specs::Trains::movement_under))]
 pub fn movement_under(z: Zone, train: u32) -> Option<Passage>
     ensures { result ≡ movement_under z train }
 {
@@ -24,6 +23,7 @@ pub fn movement_under(z: Zone, train: u32) -> Option<Passage>
 }
 
 // Whether there is no place for one more movement (KIND-5.1).
+#[tactic(auto, unfolding(crate::specs::Trains::no_place))]
 pub fn no_place(z: Zone) -> bool
     ensures { result ≡ no_place z }
 {
@@ -31,6 +31,7 @@ pub fn no_place(z: Zone) -> bool
 }
 
 // The turnouts that standing movements name.
+#[tactic(auto, unfolding(crate::specs::Trains::named_standing))]
 pub fn named_standing(st: Station, z: Zone) -> u64
     ensures { result ≡ named_standing st z }
 {
@@ -38,6 +39,7 @@ pub fn named_standing(st: Station, z: Zone) -> u64
 }
 
 // The turnouts cleared for standing movements.
+#[tactic(auto, unfolding(crate::specs::Trains::cleared_standing))]
 pub fn cleared_standing(z: Zone) -> u64
     ensures { result ≡ cleared_standing z }
 {
@@ -45,6 +47,7 @@ pub fn cleared_standing(z: Zone) -> u64
 }
 
 // The zone with one more movement, where there is a place for it (KIND-5.3).
+#[tactic(auto, unfolding(crate::specs::Trains::placed))]
 pub fn with_movement(z: Zone, v: Option<Passage>) -> Zone
     ensures { result ≡ with_movement z v }
 {
@@ -55,6 +58,7 @@ pub fn with_movement(z: Zone, v: Option<Passage>) -> Zone
 }
 
 // The zone with another movement, or none, in the place of the one under this train.
+#[tactic(auto, unfolding(crate::specs::Trains::changed))]
 pub fn changed_under(z: Zone, train: u32, v: Option<Passage>) -> Zone
     ensures { result ≡ changed_under z train v }
 {

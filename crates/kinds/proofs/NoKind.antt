@@ -1,32 +1,24 @@
--- A number that is none of the kinds 1 to 13 has the row that refuses it.
-use mathlib.Core.List.{List, [], ◌∷◌}
+-- A number that is none of the kinds 1 to 13 is refused by 11.
+use mathlib.Core.Bool.{false}
 use mathlib.Core.Path.{◌≡◌, refl}
 use Prim.Native.Nat.{ℕ}
 use lib.ListN.{get_or-eq_default}
-use Rattle.message.proofs.EachKind.{◌also◌, each-kind, NoneOf}
-use Rattle.rules.specs.Kinds.{row, rows, no_kind}
+use Rattle.station.specs.declared.Station.{Station}
+use Rattle.message.specs.declared.Message.{Message}
+use Rattle.message.specs.Fields.{is_kind}
+use Rattle.message.proofs.EachKind.{no-kind}
+use Rattle.zone.specs.declared.Zone.{Zone}
+use Rattle.zone.specs.Zone.{refused_in}
+use Rattle.rules.specs.declared.Concerned.{Concerned}
+use Rattle.rules.specs.Kinds.{row, rows, no_kind, answered}
 
--- the thirteen kinds, the last first
-abbrev pub kinds : List ℕ
-kinds = 13 ∷ 12 ∷ 11 ∷ 10 ∷ 9 ∷ 8 ∷ 7 ∷ 6 ∷ 5 ∷ 4 ∷ 3 ∷ 2 ∷ 1 ∷ []
-
-pub no_kind_lem : (k : ℕ) → NoneOf k kinds → row k ≡ no_kind
+row-of-none : (k : ℕ) → is_kind k ≡ false → row k ≡ no_kind
 unfolding row
-no_kind_lem =
-    each-kind (λ k. NoneOf k kinds → row k ≡ no_kind)
-    ((λ n. refl)
-    also (λ n. absurd (n.0.0.0.0.0.0.0.0.0.0.0.0.1 refl))
-    also (λ n. absurd (n.0.0.0.0.0.0.0.0.0.0.0.1 refl))
-    also (λ n. absurd (n.0.0.0.0.0.0.0.0.0.0.1 refl))
-    also (λ n. absurd (n.0.0.0.0.0.0.0.0.0.1 refl))
-    also (λ n. absurd (n.0.0.0.0.0.0.0.0.1 refl))
-    also (λ n. absurd (n.0.0.0.0.0.0.0.1 refl))
-    also (λ n. absurd (n.0.0.0.0.0.0.1 refl))
-    also (λ n. absurd (n.0.0.0.0.0.1 refl))
-    also (λ n. absurd (n.0.0.0.0.1 refl))
-    also (λ n. absurd (n.0.0.0.1 refl))
-    also (λ n. absurd (n.0.0.1 refl))
-    also (λ n. absurd (n.0.1 refl))
-    also (λ n. absurd (n.1 refl))
-    also tt)
-    (λ k past n. get_or-eq_default rows no_kind past)
+row-of-none =
+    no-kind (λ k. row k ≡ no_kind) refl (λ k past. get_or-eq_default rows no_kind past)
+
+pub answered_none :
+    (k : ℕ) (st : Station) (routes : Concerned) (z : Zone) (m : Message) → is_kind k ≡ false
+    → answered k st routes z m ≡ refused_in z 11
+unfolding answered
+answered_none k st routes z m none = rw (row-of-none k none)

@@ -1,182 +1,188 @@
 // The thirteen kinds of message over one zone (KIND-1 to KIND-13 of docs/RULES.md): each is its checks, in the written
 // order, and its effect. The rules are in the crate `rules`, specs/Kinds.antt.
-#![tactic(auto)]
+#![tactic(auto, using(message::proofs::Numbers::not_zero), // no refusal has the number 0
+unfolding(rules::specs::Kinds::answered, rules::specs::Kinds::row, rules::specs::Kinds::zone_after, // a kind's answer
+rules::specs::Kinds::work_after, rules::specs::Kinds::moved, // what it does to the work and the movement
+rules::specs::Kinds::recorder_after, rules::specs::Kinds::minutes_for,))]
 
 ghost use Rattle.std.specs.Prelude.{◌≡◌};
+ghost use Rattle.zone.specs.Zone.{answer_of};
 ghost use Rattle.rules.specs.Kinds.{answered, heard_on};
 
 mod codes;
 
 use durations::minutes_between;
-use message::Message;
+use message::{Kind, Message};
+use refusals::{Refusal, refuse_if};
 use rules::Concerned;
 use rules::clearances::is_efficient;
 use station::Station;
 use zone::movements::{cleared_at, keyed_at, movement_for, ordered_as};
 use zone::trains::{changed_under, movement_under, with_movement};
 use zone::works::{agreed_at, agreed_from, asked_for, opened_to, restored_of, shut_to};
-use zone::{
-    Answer, Movement, Work, Zone, at_time, refused_in, settle, with_recorder, with_work, work_of,
-};
+use zone::{Heard, Work, Zone, at_time, with_recorder, with_work, work_of};
 
-// The numbers that refuse a message in its zone.
-pub const TOO_EARLY: u8 = 14;
-
-pub const NOT_UNDER_THIS_ID: u8 = 15;
-
-pub const ALREADY_THERE: u8 = 16;
-
-pub const BAD_TURNOUTS: u8 = 17;
-
-pub const WRONG_STAGE: u8 = 18;
-
-pub const MOVEMENT_IN_THE_WAY: u8 = 19;
-
-pub const CLEARANCE_DOES_NOT_FIT: u8 = 20;
-
-pub const WRONG_MEDIUM: u8 = 21;
-
-pub const FORBIDDEN: u8 = 22;
-
-pub const KEY_DOES_NOT_FIT: u8 = 23;
-
-fn work_asked(st: Station, routes: Concerned, z: Zone, m: Message) -> Answer
-    ensures { result ≡ answered 1 st routes z m }
-{
-    let next = with_work(z, asked_for(m.id, m.d0, m.a), m.time);
-    settle(z, codes::work_asked(st, routes, z, m), 0, next)
+// A message at its zone: the station, the routes that bear on it, the zone as it is, the message.
+#[derive(Clone, Copy)]
+struct Hearing<'a> {
+    st: &'a Station,
+    routes: Concerned,
+    z: Zone,
+    m: Message,
 }
 
-fn agreed(st: Station, routes: Concerned, z: Zone, m: Message) -> Answer
-    ensures { result ≡ answered 2 st routes z m }
+fn work_asked(h: &Hearing) -> Result<Heard, Refusal>
+    ensures { answer_of h.now.z result ≡ answered 1 h.now.st.now h.now.routes h.now.z h.now.m }
 {
-    let w = work_of(z);
-    let next = with_work(z, agreed_from(w, m.time), m.time);
-    settle(z, codes::agreed(st, routes, z, m), 0, next)
+    codes::work_asked(h)?;
+    let zone = with_work(h.z, asked_for(h.m.id, h.m.d0, h.m.a), h.m.time);
+    Ok(Heard { zone, minutes: 0 })
 }
 
-fn withdrawn(st: Station, routes: Concerned, z: Zone, m: Message) -> Answer
-    ensures { result ≡ answered 3 st routes z m }
+fn agreed(h: &Hearing) -> Result<Heard, Refusal>
+    ensures { answer_of h.now.z result ≡ answered 2 h.now.st.now h.now.routes h.now.z h.now.m }
 {
-    let next = with_work(z, Work::NoWork, m.time);
-    settle(z, codes::withdrawn(st, routes, z, m), 0, next)
+    codes::agreed(h)?;
+    let zone = with_work(h.z, agreed_from(work_of(h.z), h.m.time), h.m.time);
+    Ok(Heard { zone, minutes: 0 })
 }
 
-fn detection_off(st: Station, routes: Concerned, z: Zone, m: Message) -> Answer
-    ensures { result ≡ answered 4 st routes z m }
+fn withdrawn(h: &Hearing) -> Result<Heard, Refusal>
+    ensures { answer_of h.now.z result ≡ answered 3 h.now.st.now h.now.routes h.now.z h.now.m }
 {
-    let w = work_of(z);
-    let next = with_work(z, opened_to(w, sets::join(m.a, m.b)), m.time);
-    settle(z, codes::detection_off(st, routes, z, m), 0, next)
+    codes::withdrawn(h)?;
+    let zone = with_work(h.z, Work::NoWork, h.m.time);
+    Ok(Heard { zone, minutes: 0 })
 }
 
-fn movement_asked(st: Station, routes: Concerned, z: Zone, m: Message) -> Answer
-    ensures { result ≡ answered 5 st routes z m }
+fn detection_off(h: &Hearing) -> Result<Heard, Refusal>
+    ensures { answer_of h.now.z result ≡ answered 4 h.now.st.now h.now.routes h.now.z h.now.m }
 {
-    let next = at_time(with_movement(z, movement_for(m.id, m.d0)), m.time);
-    settle(z, codes::movement_asked(st, routes, z, m), 0, next)
+    codes::detection_off(h)?;
+    let zone = with_work(
+        h.z,
+        opened_to(work_of(h.z), sets::join(h.m.a, h.m.b)),
+        h.m.time,
+    );
+    Ok(Heard { zone, minutes: 0 })
 }
 
-fn clearance(st: Station, routes: Concerned, z: Zone, m: Message) -> Answer
-    ensures { result ≡ answered 6 st routes z m }
+fn movement_asked(h: &Hearing) -> Result<Heard, Refusal>
+    ensures { answer_of h.now.z result ≡ answered 5 h.now.st.now h.now.routes h.now.z h.now.m }
 {
-    let w = work_of(z);
-    let v = movement_under(z, m.id);
-    let y = changed_under(z, m.id, cleared_at(v, m.d0, is_efficient(m.d1)));
-    let next = with_work(y, shut_to(w, sets::only(m.d0 as usize)), m.time);
-    settle(z, codes::clearance(st, routes, z, m), 0, next)
+    codes::movement_asked(h)?;
+    let zone = at_time(with_movement(h.z, movement_for(h.m.id, h.m.d0)), h.m.time);
+    Ok(Heard { zone, minutes: 0 })
 }
 
-fn ordered(st: Station, routes: Concerned, z: Zone, m: Message) -> Answer
-    ensures { result ≡ answered 7 st routes z m }
+fn clearance(h: &Hearing) -> Result<Heard, Refusal>
+    ensures { answer_of h.now.z result ≡ answered 6 h.now.st.now h.now.routes h.now.z h.now.m }
 {
-    let v = movement_under(z, m.id);
-    let next = at_time(changed_under(z, m.id, ordered_as(v, m.d0)), m.time);
-    settle(z, codes::ordered(st, routes, z, m), 0, next)
-}
-
-fn passed(st: Station, routes: Concerned, z: Zone, m: Message) -> Answer
-    ensures { result ≡ answered 8 st routes z m }
-{
-    let next = at_time(changed_under(z, m.id, Movement::NoMovement), m.time);
-    settle(z, codes::passed(st, routes, z, m), 0, next)
-}
-
-fn cancelled(st: Station, routes: Concerned, z: Zone, m: Message) -> Answer
-    ensures { result ≡ answered 9 st routes z m }
-{
-    let next = at_time(changed_under(z, m.id, Movement::NoMovement), m.time);
-    settle(z, codes::cancelled(st, routes, z, m), 0, next)
-}
-
-fn part_restored(st: Station, routes: Concerned, z: Zone, m: Message) -> Answer
-    ensures { result ≡ answered 10 st routes z m }
-{
-    let w = work_of(z);
-    let next = with_work(z, restored_of(w, m.a), m.time);
-    settle(z, codes::part_restored(st, routes, z, m), 0, next)
-}
-
-fn all_restored(st: Station, routes: Concerned, z: Zone, m: Message) -> Answer
-    ensures { result ≡ answered 11 st routes z m }
-{
-    let w = work_of(z);
-    let next = with_work(z, Work::NoWork, m.time);
-    settle(
+    codes::clearance(h)?;
+    let v = movement_under(h.z, h.m.id);
+    let z = changed_under(h.z, h.m.id, cleared_at(v, h.m.d0, is_efficient(h.m.d1)));
+    let zone = with_work(
         z,
-        codes::all_restored(st, routes, z, m),
-        minutes_between(agreed_at(w), m.time),
-        next,
-    )
+        shut_to(work_of(h.z), sets::only(h.m.d0 as usize)),
+        h.m.time,
+    );
+    Ok(Heard { zone, minutes: 0 })
 }
 
-fn recorder(st: Station, routes: Concerned, z: Zone, m: Message) -> Answer
-    ensures { result ≡ answered 12 st routes z m }
+fn ordered(h: &Hearing) -> Result<Heard, Refusal>
+    ensures { answer_of h.now.z result ≡ answered 7 h.now.st.now h.now.routes h.now.z h.now.m }
 {
-    Answer {
-        code: 0,
-        minutes: 0,
-        zone: with_recorder(z, m.d0 == 1, m.time),
-    }
+    codes::ordered(h)?;
+    let v = movement_under(h.z, h.m.id);
+    let zone = at_time(changed_under(h.z, h.m.id, ordered_as(v, h.m.d0)), h.m.time);
+    Ok(Heard { zone, minutes: 0 })
 }
 
-fn key_used(st: Station, routes: Concerned, z: Zone, m: Message) -> Answer
-    ensures { result ≡ answered 13 st routes z m }
+fn passed(h: &Hearing) -> Result<Heard, Refusal>
+    ensures { answer_of h.now.z result ≡ answered 8 h.now.st.now h.now.routes h.now.z h.now.m }
 {
-    let v = movement_under(z, m.id);
-    let next = at_time(changed_under(z, m.id, keyed_at(v, m.d0)), m.time);
-    settle(z, codes::key_used(st, routes, z, m), 0, next)
+    codes::passed(h)?;
+    let zone = at_time(changed_under(h.z, h.m.id, None), h.m.time);
+    Ok(Heard { zone, minutes: 0 })
+}
+
+fn cancelled(h: &Hearing) -> Result<Heard, Refusal>
+    ensures { answer_of h.now.z result ≡ answered 9 h.now.st.now h.now.routes h.now.z h.now.m }
+{
+    codes::cancelled(h)?;
+    let zone = at_time(changed_under(h.z, h.m.id, None), h.m.time);
+    Ok(Heard { zone, minutes: 0 })
+}
+
+fn part_restored(h: &Hearing) -> Result<Heard, Refusal>
+    ensures { answer_of h.now.z result ≡ answered 10 h.now.st.now h.now.routes h.now.z h.now.m }
+{
+    codes::part_restored(h)?;
+    let zone = with_work(h.z, restored_of(work_of(h.z), h.m.a), h.m.time);
+    Ok(Heard { zone, minutes: 0 })
+}
+
+fn all_restored(h: &Hearing) -> Result<Heard, Refusal>
+    ensures { answer_of h.now.z result ≡ answered 11 h.now.st.now h.now.routes h.now.z h.now.m }
+{
+    codes::all_restored(h)?;
+    let since = agreed_at(work_of(h.z));
+    let zone = with_work(h.z, Work::NoWork, h.m.time);
+    Ok(Heard {
+        zone,
+        minutes: minutes_between(since, h.m.time),
+    })
+}
+
+fn recorder(h: &Hearing) -> Result<Heard, Refusal>
+    ensures { answer_of h.now.z result ≡ answered 12 h.now.st.now h.now.routes h.now.z h.now.m }
+{
+    let zone = with_recorder(h.z, h.m.d0 == 1, h.m.time);
+    Ok(Heard { zone, minutes: 0 })
+}
+
+fn key_used(h: &Hearing) -> Result<Heard, Refusal>
+    ensures { answer_of h.now.z result ≡ answered 13 h.now.st.now h.now.routes h.now.z h.now.m }
+{
+    codes::key_used(h)?;
+    let v = movement_under(h.z, h.m.id);
+    let zone = at_time(changed_under(h.z, h.m.id, keyed_at(v, h.m.d0)), h.m.time);
+    Ok(Heard { zone, minutes: 0 })
 }
 
 // A message heard by its zone once 14 is past: the checks and the effect of its kind (HEAR-4).
-fn hear_kind(st: Station, routes: Concerned, z: Zone, m: Message) -> Answer
-    ensures { result ≡ answered m.kind st routes z m }
+#[tactic(auto, using(crate::proofs::NoKind::answered_none))]
+fn hear_kind(h: &Hearing) -> Result<Heard, Refusal>
+    ensures { answer_of h.now.z result ≡ answered h.now.m.kind h.now.st.now h.now.routes h.now.z h.now.m }
 {
-    let kind = m.kind;
-    match kind {
-        message::WORK_ASKED => work_asked(st, routes, z, m),
-        message::AGREED => agreed(st, routes, z, m),
-        message::WITHDRAWN => withdrawn(st, routes, z, m),
-        message::DETECTION_OFF => detection_off(st, routes, z, m),
-        message::MOVEMENT_ASKED => movement_asked(st, routes, z, m),
-        message::CLEARANCE => clearance(st, routes, z, m),
-        message::ORDERED => ordered(st, routes, z, m),
-        message::PASSED => passed(st, routes, z, m),
-        message::CANCELLED => cancelled(st, routes, z, m),
-        message::PART_RESTORED => part_restored(st, routes, z, m),
-        message::ALL_RESTORED => all_restored(st, routes, z, m),
-        message::RECORDER => recorder(st, routes, z, m),
-        message::KEY_USED => key_used(st, routes, z, m),
-        _ => refused_in(z, message::BAD_KIND),
+    match Kind::try_from(h.m.kind)? {
+        Kind::WorkAsked => work_asked(h),
+        Kind::Agreed => agreed(h),
+        Kind::Withdrawn => withdrawn(h),
+        Kind::DetectionOff => detection_off(h),
+        Kind::MovementAsked => movement_asked(h),
+        Kind::Clearance => clearance(h),
+        Kind::Ordered => ordered(h),
+        Kind::Passed => passed(h),
+        Kind::Cancelled => cancelled(h),
+        Kind::PartRestored => part_restored(h),
+        Kind::AllRestored => all_restored(h),
+        Kind::Recorder => recorder(h),
+        Kind::KeyUsed => key_used(h),
     }
 }
 
 // A message heard by its zone: 14, then the checks and the effect of its kind (HEAR-3, HEAR-4).
-pub fn hear(st: Station, routes: Concerned, z: Zone, m: Message) -> Answer
-    ensures { result ≡ heard_on st routes z m }
+#[tactic(auto, unfolding(rules::specs::Kinds::heard_on))]
+pub fn hear(st: Station, routes: Concerned, z: Zone, m: Message) -> Result<Heard, Refusal>
+    ensures { answer_of z result ≡ heard_on st routes z m }
 {
-    if m.time < z.time {
-        return refused_in(z, TOO_EARLY);
-    }
-    hear_kind(st, routes, z, m)
+    refuse_if(m.time < z.time, Refusal::TooEarly)?;
+    let hearing = Hearing {
+        st: &st,
+        routes,
+        z,
+        m,
+    };
+    hear_kind(&hearing)
 }

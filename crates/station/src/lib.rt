@@ -7,7 +7,6 @@ ghost use Rattle.std.specs.Prelude.{◌≡◌, ◌<◌, eqb};
 ghost use Rattle.station.specs.Station.{
   empty_route,
   empty_station,
-  number_if,
   turnout_count,
   route_count,
   zone_count,
@@ -157,13 +156,6 @@ pub fn route_none() -> Route
     ensures { result ≡ empty_route }
 {
     Route::NONE
-}
-
-// The code where a test holds, else the rest of the answer.
-pub fn first_code(test: bool, code: u8, rest: u8) -> u8
-    ensures { result ≡ number_if test code rest }
-{
-    if test { code } else { rest }
 }
 
 // A route; one not below R has every number 0 and names nothing (VALUE-3).

@@ -1,6 +1,7 @@
 -- A desk, encoded and decoded, is the same desk, for every desk that code can hold: eight zones,
 -- numbers of their machine types. Bytes that are a desk's are the encoding of the desk that stands
 -- in them.
+use Rattle.std.specs.Prelude.{None, Some}
 use mathlib.Core.Path.{◌≡◌, refl, ap, ◌∙◌}
 use mathlib.Core.Bool.{Bool, true, false, cond}
 use mathlib.Core.Logic.{◌↔◌}
@@ -13,11 +14,9 @@ use Rattle.bigendian.specs.BigEndian.{Bytes}
 use Rattle.bigendian.proofs.Numbers.{value-bytes}
 use Rattle.zone.specs.declared.Work.{Work}
 use Rattle.zone.specs.declared.Work.TheVariants.{NoWork, Asked, Agreed}
-use Rattle.zone.specs.declared.Movement.{Movement}
-use Rattle.zone.specs.declared.Movement.TheVariants.{NoMovement, Standing}
 use Rattle.zone.specs.declared.Zone.{Zone}
 use Rattle.desk.specs.declared.Desk.{Desk}
-use Rattle.zone.specs.Movement.{key_set}
+use Rattle.zone.specs.Movement.{Movement, key_set}
 use Rattle.zone.specs.Zone.{no_zone}
 use Rattle.desk.specs.Desk.{zone_at}
 use Rattle.desk_bytes.specs.Encoding.{work_bytes, movement_bytes, last_bytes, zone_bytes}
@@ -59,13 +58,13 @@ movement-read :
     movement_in (work_bytes w ++ (movement_bytes v ++ (last_bytes working time (key_set v) ++ rest))) 26
     ≡ v
 unfolding movement_in work_bytes movement_bytes last_bytes
-movement-read w NoMovement fits working time rest = refl
-movement-read w (Standing p) fits working time rest =
+movement-read w None fits working time rest = refl
+movement-read w (Some p) fits working time rest =
     let train = value-bytes 4 p.train ∙ mod-eq_of_lt fits.train in
     let cleared = value-bytes 8 p.cleared ∙ mod-eq_of_lt fits.cleared in
     let efficient = value-bytes 8 p.efficient ∙ mod-eq_of_lt fits.efficient in
     let keys = value-bytes 8 p.keys ∙ mod-eq_of_lt fits.keys in
-    λ i. Standing (record {
+    λ i. Some (record {
       train = train i;
       route = p.route;
       order = p.order;

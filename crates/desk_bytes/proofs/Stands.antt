@@ -13,10 +13,9 @@ use Rattle.bigendian.specs.BigEndian.{Bytes, byte_at, bytes_at, be_bytes, be_val
 use Rattle.bigendian.proofs.Numbers.{length-be_bytes, value-bytes}
 use Rattle.bigendian.proofs.Places.{bytes-number}
 use Rattle.zone.specs.declared.Work.{Work}
-use Rattle.zone.specs.declared.Movement.{Movement}
 use Rattle.zone.specs.declared.Zone.{Zone}
 use Rattle.zone.specs.Work.{form_of, manner, work_set, agreed_at, open_set}
-use Rattle.zone.specs.Movement.{train_of, order_of, cleared_set, efficient_set, key_set}
+use Rattle.zone.specs.Movement.{Movement, train_of, order_of, cleared_set, efficient_set, key_set}
 use Rattle.desk_bytes.specs.Encoding.{
   stage_of,
   work_bytes,

@@ -1,4 +1,5 @@
 -- The desk that stands in bytes has numbers of their machine types.
+use Rattle.std.specs.Prelude.{None}
 use mathlib.Core.Path.{◌≡◌, refl}
 use mathlib.Core.Bool.{Bool, true, false}
 use mathlib.Core.List.{List, [], ◌∷◌, map}
@@ -8,7 +9,6 @@ use lib.ListN.{get_or}
 use Rattle.bigendian.specs.BigEndian.{Bytes, byte_at}
 use Rattle.bigendian.proofs.Places.{number_lt}
 use Rattle.zone.specs.declared.Work.TheVariants.{NoWork}
-use Rattle.zone.specs.declared.Movement.TheVariants.{NoMovement}
 use Rattle.zone.specs.declared.Zone.{Zone}
 use Rattle.zone.specs.Zone.{no_zone}
 use Rattle.desk_bytes.specs.Typed.{TypedWork, TypedMovement, TypedZone, TypedDesk}
@@ -18,7 +18,7 @@ use Rattle.desk_bytes.specs.Encoding.{work_in, movement_in, zone_in, desk_in}
 pub no-work-typed : TypedWork NoWork
 no-work-typed = record { form = lit< tt; set = lit< tt; since = lit< tt; opened = lit< tt }
 
-pub no-movement-typed : TypedMovement NoMovement
+pub no-movement-typed : TypedMovement None
 no-movement-typed =
     record { train = lit< tt; cleared = lit< tt; efficient = lit< tt; keys = lit< tt }
 

@@ -1,16 +1,14 @@
 -- A desk as 520 bytes, UNIT-1 (docs/RULES.md), and the desk that stands in bytes. Numbers are
 -- big-endian (SET-3); fields that the stage of the work, or a zone without a movement, does not
 -- have are 0.
-use Rattle.std.specs.Prelude.{Bool, true, false, cond, ◌&&◌, List, [], ◌∷◌, ◌++◌, ℕ, zero, suc, ◌+◌, ◌*◌, eqb, ltb, replicate}
+use Rattle.std.specs.Prelude.{Bool, true, false, cond, ◌&&◌, List, [], ◌∷◌, ◌++◌, ℕ, zero, suc, ◌+◌, ◌*◌, eqb, ltb, replicate, Option, None, Some}
 use Rattle.std.proofs.lemmas.List.Edits.{sets}
 use Rattle.bigendian.specs.BigEndian.{byte_at, number_at, be_bytes}
 use Rattle.zone.specs.declared.Work.{Work}
 use Rattle.zone.specs.declared.Work.TheVariants.{NoWork, Asked, Agreed}
-use Rattle.zone.specs.declared.Movement.{Movement}
-use Rattle.zone.specs.declared.Movement.TheVariants.{NoMovement, Standing}
 use Rattle.zone.specs.declared.Zone.{Zone}
 use Rattle.zone.specs.Work.{form_of, manner, work_set, agreed_at, open_set}
-use Rattle.zone.specs.Movement.{train_of, order_of, cleared_set, efficient_set, key_set}
+use Rattle.zone.specs.Movement.{Movement, train_of, order_of, cleared_set, efficient_set, key_set}
 use Rattle.desk.specs.declared.Desk.{Desk}
 use Rattle.desk.specs.Desk.{zone_at}
 
@@ -37,12 +35,12 @@ movement_fields standing route order train cleared efficient =
 
 -- 0 no movement, 1 one that stands
 abbrev pub standing_of : Movement → ℕ
-standing_of NoMovement = 0
-standing_of (Standing p) = 1
+standing_of None = 0
+standing_of (Some p) = 1
 
 abbrev pub route_number : Movement → ℕ
-route_number NoMovement = 0
-route_number (Standing p) = p.route
+route_number None = 0
+route_number (Some p) = p.route
 
 unfoldable pub movement_bytes : Movement → List ℕ
 movement_bytes v =
@@ -108,7 +106,7 @@ work_in s at =
 unfoldable pub movement_in : List ℕ → ℕ → Movement
 movement_in s at =
     cond (eqb (byte_at s at) 1)
-    (Standing (record {
+    (Some (record {
       train = number_at 4 s (at + 3);
       route = byte_at s (at + 1);
       order = byte_at s (at + 2);
@@ -116,7 +114,7 @@ movement_in s at =
       efficient = number_at 8 s (at + 15);
       keys = number_at 8 s (at + 28);
     }))
-    NoMovement
+    None
 
 -- the zone that stands in the bytes from a place on; a recorder's byte that is not 1 as not working
 unfoldable pub zone_in : List ℕ → ℕ → Zone

@@ -2,10 +2,9 @@
 -- code holds.
 use Rattle.std.specs.Prelude.{◌≡◌, ℕ, ◌^◌, ◌<◌, length}
 use Rattle.zone.specs.declared.Work.{Work}
-use Rattle.zone.specs.declared.Movement.{Movement}
 use Rattle.zone.specs.declared.Zone.{Zone}
 use Rattle.zone.specs.Work.{form_of, work_set, agreed_at, open_set}
-use Rattle.zone.specs.Movement.{train_of, cleared_set, efficient_set, key_set}
+use Rattle.zone.specs.Movement.{Movement, train_of, cleared_set, efficient_set, key_set}
 use Rattle.desk.specs.declared.Desk.{Desk}
 use Rattle.desk.specs.Desk.{zone_at}
 

@@ -3,12 +3,12 @@
 // the same desk, proofs/ZonePlaces.antt that a zone stored is put into it. Every function takes any bytes and any desk.
 #![tactic(auto)]
 
-ghost use Rattle.std.specs.Prelude.{◌≡◌};
+ghost use Rattle.std.specs.Prelude.{◌≡◌, ◌+◌, ◌*◌};
 ghost use Rattle.desk.specs.Desk.{zone_at};
 ghost use Rattle.desk_bytes.specs.Encoding.{stored_desk, stored_zone, desk_in, is_desk};
 
 use desk::Desk;
-use zone::{Movement, Work, Zone};
+use zone::{Work, Zone};
 
 mod checking;
 mod reading;
@@ -16,6 +16,21 @@ mod storing;
 
 // The length of a desk in bytes (UNIT-1).
 pub const LENGTH: usize = 520;
+
+// A zone with nothing in it.
+const NO_ZONE: Zone = Zone {
+    work: Work::NoWork,
+    movement: None,
+    recorder: false,
+    time: 0,
+};
+
+// Where zone k stands: a number of 8 bits, so that no place overflows.
+fn place(k: u8) -> u16
+    ensures { result ≡ 8 + 64 * k }
+{
+    8 + 64 * u16::from(k)
+}
 
 // Stores a desk at the start of the bytes; a byte past their end is not stored (UNIT-1).
 pub fn encode(d: Desk, s: &mut [u8])
@@ -37,14 +52,9 @@ pub fn zone_at(s: &[u8], k: usize) -> Zone
     ensures { result ≡ zone_at (desk_in s.now) k }
 {
     if k < Desk::ZONES {
-        return reading::zone_in(s, 8 + 64 * k);
+        return reading::zone_in(s, k as u8);
     }
-    Zone {
-        work: Work::NoWork,
-        movement: Movement::NoMovement,
-        recorder: false,
-        time: 0,
-    }
+    NO_ZONE
 }
 
 // Stores zone k in its place, and nothing from 8 on; a byte past the end is not stored.
@@ -52,7 +62,7 @@ pub fn put_zone_at(z: Zone, s: &mut [u8], k: usize)
     ensures { s.new ≡ stored_zone s.old k z }
 {
     if k < Desk::ZONES {
-        storing::put_zone(z, s, 8 + 64 * k);
+        storing::put_zone(z, s, k as u8);
     }
 }
 
@@ -63,5 +73,5 @@ pub fn is_desk(s: &[u8]) -> bool
     if s.len() != LENGTH {
         return false;
     }
-    (bigendian::get64(s, 0) == storing::HEAD) & checking::zones_kept(s)
+    (bigendian::get::<u64>(s, 0) == storing::HEAD) & checking::zones_kept(s)
 }

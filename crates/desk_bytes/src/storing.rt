@@ -1,6 +1,7 @@
 // Storing a desk in bytes, UNIT-1 (docs/RULES.md): the head, then each zone from its place on.
-ghost use Rattle.std.specs.Prelude.{◌≡◌, cond, ◌<◌};
+ghost use Rattle.std.specs.Prelude.{◌≡◌, ◌+◌, ◌*◌};
 ghost use Rattle.std.proofs.lemmas.List.Edits.{sets};
+ghost use Rattle.zone.specs.Movement.{key_set};
 ghost use Rattle.desk_bytes.specs.Encoding.{
   head_bytes,
   work_fields,
@@ -12,126 +13,119 @@ ghost use Rattle.desk_bytes.specs.Encoding.{
   zones_from,
 };
 
+use crate::place;
 use desk::Desk;
 use zone::movements::key_set;
-use zone::{Movement, Work, Zone};
+use zone::{Agreement, Passage, Work, Zone};
 
 // The version, 1, in the first of 8 bytes.
 pub const HEAD: u64 = 72057594037927936;
 
+// What the fields of no work hold, and those of an agreement while work is only asked for.
+const NO_AGREEMENT: Agreement = Agreement {
+    set: 0,
+    opened: 0,
+    form: 0,
+    since: 0,
+    manner: 0,
+};
+
+// What the fields of no movement hold.
+const NO_PASSAGE: Passage = Passage {
+    cleared: 0,
+    efficient: 0,
+    keys: 0,
+    train: 0,
+    route: 0,
+    order: 0,
+};
+
 pub fn put_head(s: &mut [u8])
     ensures { s.new ≡ sets s.old 0 head_bytes }
 {
-    bigendian::put64(s, 0, HEAD);
+    bigendian::put(s, 0, HEAD);
 }
 
-fn put_work_fields(
-    s: &mut [u8],
-    at: usize,
-    stage: u8,
-    manner: u8,
-    form: u32,
-    set: u64,
-    since: u32,
-    opened: u64,
-)
-    requires { at < 4096 }
-    ensures { s.new ≡ sets s.old at (work_fields stage manner form set since opened) }
+fn put_work_fields(s: &mut [u8], at: u16, stage: u8, g: Agreement)
+    ensures { s.new ≡ sets s.old at (work_fields stage g.manner g.form g.set g.since g.opened) }
 {
-    bigendian::put8(s, at, stage);
-    bigendian::put8(s, at + 1, manner);
-    bigendian::put32(s, at + 2, form);
-    bigendian::put64(s, at + 6, set);
-    bigendian::put32(s, at + 14, since);
-    bigendian::put64(s, at + 18, opened);
+    let at = at as usize;
+    bigendian::put(s, at, stage);
+    bigendian::put(s, at + 1, g.manner);
+    bigendian::put(s, at + 2, g.form);
+    bigendian::put(s, at + 6, g.set);
+    bigendian::put(s, at + 14, g.since);
+    bigendian::put(s, at + 18, g.opened);
 }
 
 #[tactic(auto, unfolding(crate::specs::Encoding::work_bytes))]
-fn put_work(w: Work, s: &mut [u8], at: usize)
-    requires { at < 4096 }
+fn put_work(w: Work, s: &mut [u8], at: u16)
     ensures { s.new ≡ sets s.old at (work_bytes w) }
 {
     match w {
-        Work::NoWork => put_work_fields(s, at, 0, 0, 0, 0, 0, 0),
-        Work::Asked(q) => put_work_fields(s, at, 1, q.manner, q.form, q.set, 0, 0),
-        Work::Agreed(g) => put_work_fields(s, at, 2, g.manner, g.form, g.set, g.since, g.opened),
+        Work::NoWork => put_work_fields(s, at, 0, NO_AGREEMENT),
+        Work::Asked(q) => {
+            let asked = Agreement {
+                manner: q.manner,
+                form: q.form,
+                set: q.set,
+                ..NO_AGREEMENT
+            };
+            put_work_fields(s, at, 1, asked)
+        }
+        Work::Agreed(g) => put_work_fields(s, at, 2, g),
     }
 }
 
-fn put_movement_fields(
-    s: &mut [u8],
-    at: usize,
-    standing: u8,
-    route: u8,
-    order: u8,
-    train: u32,
-    cleared: u64,
-    efficient: u64,
-)
-    requires { at < 4096 }
+fn put_movement_fields(s: &mut [u8], at: u16, standing: u8, p: Passage)
     ensures { s.new
-        ≡ sets s.old at (movement_fields standing route order train cleared efficient) }
+        ≡ sets s.old at (movement_fields standing p.route p.order p.train p.cleared p.efficient) }
 {
-    bigendian::put8(s, at, standing);
-    bigendian::put8(s, at + 1, route);
-    bigendian::put8(s, at + 2, order);
-    bigendian::put32(s, at + 3, train);
-    bigendian::put64(s, at + 7, cleared);
-    bigendian::put64(s, at + 15, efficient);
+    let at = at as usize;
+    bigendian::put(s, at, standing);
+    bigendian::put(s, at + 1, p.route);
+    bigendian::put(s, at + 2, p.order);
+    bigendian::put(s, at + 3, p.train);
+    bigendian::put(s, at + 7, p.cleared);
+    bigendian::put(s, at + 15, p.efficient);
 }
 
 #[tactic(auto, unfolding(crate::specs::Encoding::movement_bytes))]
-fn put_movement(v: Movement, s: &mut [u8], at: usize)
-    requires { at < 4096 }
+fn put_movement(v: Option<Passage>, s: &mut [u8], at: u16)
     ensures { s.new ≡ sets s.old at (movement_bytes v) }
 {
     match v {
-        Movement::NoMovement => put_movement_fields(s, at, 0, 0, 0, 0, 0, 0),
-        Movement::Standing(p) => {
-            put_movement_fields(s, at, 1, p.route, p.order, p.train, p.cleared, p.efficient)
-        }
+        None => put_movement_fields(s, at, 0, NO_PASSAGE),
+        Some(p) => put_movement_fields(s, at, 1, p),
     }
 }
 
-// 1 while the recorder works, else 0.
-fn recorder_byte(working: bool) -> u8
-    ensures { result ≡ cond working 1 0 }
-{
-    if working {
-        return 1;
-    }
-    0
-}
-
+// The recorder, the time, the keys, the reserved bytes.
 #[tactic(auto, unfolding(crate::specs::Encoding::last_bytes))]
-fn put_last(working: bool, time: u32, keys: u64, s: &mut [u8], at: usize)
-    requires { at < 4096 }
-    ensures { s.new ≡ sets s.old at (last_bytes working time keys) }
+fn put_last(z: Zone, s: &mut [u8], at: u16)
+    ensures { s.new ≡ sets s.old at (last_bytes z.recorder z.time (key_set z.movement)) }
 {
-    bigendian::put8(s, at, recorder_byte(working));
-    bigendian::put32(s, at + 1, time);
-    bigendian::put64(s, at + 5, keys);
-    bigendian::put16(s, at + 13, 0);
+    let at = at as usize;
+    bigendian::put(s, at, u8::from(z.recorder));
+    bigendian::put(s, at + 1, z.time);
+    bigendian::put(s, at + 5, key_set(z.movement));
+    bigendian::put(s, at + 13, 0u16);
 }
 
-pub fn put_zone(z: Zone, s: &mut [u8], at: usize)
-    requires { at < 2048 }
-    ensures { s.new ≡ sets s.old at (zone_bytes z) }
+// Stores zone k in its place.
+pub fn put_zone(z: Zone, s: &mut [u8], k: u8)
+    ensures { s.new ≡ sets s.old (8 + 64 * k) (zone_bytes z) }
 {
-    let w = z.work;
-    let v = z.movement;
-    put_work(w, s, at);
-    put_movement(v, s, at + 26);
-    put_last(z.recorder, z.time, key_set(v), s, at + 49);
+    let at = place(k);
+    put_work(z.work, s, at);
+    put_movement(z.movement, s, at + 26);
+    put_last(z, s, at + 49);
 }
 
 pub fn put_zones(d: Desk, s: &mut [u8])
     ensures { s.new ≡ sets s.old 8 (zones_from d 0 8) }
 {
-    let mut k: usize = 0;
-    while k < Desk::ZONES {
-        let z = d.zones[k];
-        put_zone(z, s, 8 + 64 * k);
-        k += 1;
+    for (k, z) in d.zones.iter().enumerate() {
+        put_zone(*z, s, k as u8);
     }
 }

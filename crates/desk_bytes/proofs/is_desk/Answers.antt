@@ -9,5 +9,5 @@ returns-then-s-ne-LENGTH c = sym (other_length c.args.s.now c.if-s-ne-LENGTH.tru
 pub returns : goal.returns
 returns c =
     let s = c.args.s.now in
-    rw (c.zones_kept.ensures, c.get64.ensures)
+    rw (c.zones_kept.ensures, c.get.ensures)
     (sym (desk-kept s (slice-bytes s c.type_inv.s) c.if-s-ne-LENGTH.false))

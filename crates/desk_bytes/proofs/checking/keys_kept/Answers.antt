@@ -3,4 +3,4 @@ use Rattle.desk_bytes.proofs.Kept.{keys_kept}
 use Rattle.desk_bytes.proofs.checking.keys_kept.Goals as goal
 
 pub returns : goal.returns
-returns c = rw (c.get64.ensures, c.get8.ensures) (sym (keys_kept c.args.s.now c.args.at))
+returns c = rw (c.get-2.ensures, c.get.ensures) (sym (keys_kept c.args.s.now c.args.at))

@@ -1,8 +1,6 @@
-use Rattle.std.proofs.Common.{◌≡◌, List, ℕ, ◌+◌, ◌*◌, ◌-◌, length, sym, ap, ◌∙◌, arith}
+use Rattle.std.proofs.Common.{◌≡◌, List, ℕ, ◌+◌, ◌*◌, ◌-◌, sym, ap, ◌∙◌, arith}
 use Rattle.std.proofs.lemmas.List.Edits.{sets}
-use Rattle.std.proofs.Math.Seq.{length-sets}
-use Rattle.desk.specs.Desk.{zone_at}
-use Rattle.desk_bytes.specs.Encoding.{zone_bytes, zones_from}
+use Rattle.desk_bytes.specs.Encoding.{zones_from}
 use Rattle.desk_bytes.proofs.Stores.{zones-next}
 use Rattle.desk_bytes.proofs.storing.put_zones.Goals as goal
 
@@ -11,15 +9,9 @@ loop-k-preserved c =
     let d = c.args.d in
     let l = c.loop-k in
     let left = zones_from d (l.k + 1) (8 - (l.k + 1)) in
-    let stored = c.put_zone.ensures in (
-      omega arith,
-      ap length stored
-          ∙ length-sets l.s (8 + 64 * l.k) (zone_bytes (zone_at d l.k))
-          ∙ l.invariant.1,
-      ap (λ (s : List ℕ). sets s (8 + 64 * (l.k + 1)) left) stored
-          ∙ sym (zones-next d l.s l.k c.loop-k-test.true)
-          ∙ l.invariant.2,
-    )
+    ap (λ (s : List ℕ). sets s (8 + 64 * (l.k + 1)) left) c.put_zone.ensures
+    ∙ sym (zones-next d l.s l.k c.loop-k-test.true)
+    ∙ l.invariant
 
 pub returns : goal.returns
 unfolding zones_from
@@ -27,4 +19,4 @@ returns c =
     let d = c.args.d in
     let l = c.loop-k in
     let ended : l.k ≡ 8 = omega arith in
-    sym (ap (λ (k : ℕ). sets l.s (8 + 64 * k) (zones_from d k (8 - k))) ended) ∙ l.invariant.2
+    sym (ap (λ (k : ℕ). sets l.s (8 + 64 * k) (zones_from d k (8 - k))) ended) ∙ l.invariant

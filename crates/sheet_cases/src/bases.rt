@@ -1,57 +1,108 @@
 // The sheets by their base numbers: 1 to 4 of version 1 (sheets.rt), 31 to 36 of version 2 (grouped.rt).
 use super::{grouped, sheets};
 
-// Stores the sheet that a base number names: 1 station K, 2 the larger sheet, 3 the largest with 8 zones, 4 the
-// largest with 1; 31 to 34 the same in version 2; 35 the sheet with groups, 36 the largest with groups of eight.
-pub fn put_base(s: &mut [u8], base: u16) {
-    match base {
-        1 => sheets::put_k(s),
-        2 => sheets::put_large(s),
-        3 => sheets::put_largest(s, 8),
-        4 => sheets::put_largest(s, 1),
-        31 => grouped::put_k(s),
-        32 => grouped::put_large(s),
-        33 => grouped::put_largest(s, 8),
-        34 => grouped::put_largest(s, 1),
-        35 => grouped::put_groups(s),
-        36 => grouped::put_eights(s),
-        _ => {}
+// The length of the longest sheet, and of the buffers that sheets are put into.
+pub const LONGEST: usize = 2312;
+
+// A sheet that there is in both versions.
+#[derive(Clone, Copy)]
+pub enum Shape {
+    StationK,
+    Larger,
+    Largest { zones: u8 },
+}
+
+// A sheet to start from.
+#[derive(Clone, Copy)]
+pub enum Base {
+    Version1(Shape),
+    Version2(Shape),
+    // Of version 2 alone: one with groups, and the largest with groups of eight.
+    Groups,
+    Eights,
+}
+
+// A number that names no sheet.
+#[derive(Clone, Copy)]
+pub struct UnknownBase;
+
+impl TryFrom<u16> for Base {
+    type Error = UnknownBase;
+
+    fn try_from(number: u16) -> Result<Base, UnknownBase> {
+        match number {
+            1 => Ok(Base::Version1(Shape::StationK)),
+            2 => Ok(Base::Version1(Shape::Larger)),
+            3 => Ok(Base::Version1(Shape::Largest { zones: 8 })),
+            4 => Ok(Base::Version1(Shape::Largest { zones: 1 })),
+            31 => Ok(Base::Version2(Shape::StationK)),
+            32 => Ok(Base::Version2(Shape::Larger)),
+            33 => Ok(Base::Version2(Shape::Largest { zones: 8 })),
+            34 => Ok(Base::Version2(Shape::Largest { zones: 1 })),
+            35 => Ok(Base::Groups),
+            36 => Ok(Base::Eights),
+            _ => Err(UnknownBase),
+        }
     }
 }
 
-// How many bytes the sheet has that a base number names.
-pub fn base_length(base: u16) -> usize {
-    match base {
-        1 => 50,
-        2 => 131,
-        31 => 50,
-        32 => 131,
-        35 => 188,
-        3 => 2312,
-        4 => 2312,
-        33 => 2312,
-        34 => 2312,
-        36 => 2312,
-        _ => 0,
+impl Base {
+    // Stores the sheet in bytes that are 0.
+    fn put(self, s: &mut [u8]) {
+        match self {
+            Base::Version1(shape) => sheets::put_shape(s, shape),
+            Base::Version2(shape) => grouped::put_shape(s, shape),
+            Base::Groups => grouped::put_groups(s),
+            Base::Eights => grouped::put_eights(s),
+        }
+    }
+
+    // How many bytes the sheet has.
+    fn length(self) -> usize {
+        match self {
+            Base::Version1(Shape::StationK) | Base::Version2(Shape::StationK) => 50,
+            Base::Version1(Shape::Larger) | Base::Version2(Shape::Larger) => 131,
+            Base::Groups => 188,
+            _ => LONGEST,
+        }
+    }
+
+    // What writing the station of the sheet gives (WRITE-1, WRITE-2 of docs/RULES.md): the same in version 2.
+    pub fn written(self) -> Base {
+        match self {
+            Base::Version1(shape) => Base::Version2(shape),
+            other => other,
+        }
     }
 }
 
-// The base number of what writing the station of a sheet gives (WRITE-1, WRITE-2 of docs/RULES.md): the same in
-// version 2.
-pub fn written(base: u16) -> u16 {
-    match base {
-        1 => 31,
-        2 => 32,
-        3 => 33,
-        4 => 34,
-        _ => base,
-    }
+// A sheet in a buffer of 0s, and how many of its bytes are the sheet's: a case's damage may stand past them, and a case
+// may read more of the buffer or less.
+#[derive(Drop)]
+pub struct Sheet {
+    pub buffer: [u8; LONGEST],
+    pub length: usize,
 }
 
-// The station that station K's sheet gives.
-pub fn station_k() -> station::Station {
-    let mut s = [0u8; 50];
-    sheets::put_k(&mut s);
-    let r = sheet::read_sheet(&s);
-    r.station
+impl Sheet {
+    // The sheet that a base number names; no bytes where it names none.
+    pub fn of(base: Result<Base, UnknownBase>) -> Sheet {
+        let mut buffer = [0; LONGEST];
+        let Ok(base) = base else {
+            return Sheet { buffer, length: 0 };
+        };
+        base.put(&mut buffer);
+        let length = base.length();
+        Sheet { buffer, length }
+    }
+
+    // The sheet's bytes.
+    pub fn bytes(&self) -> &[u8] {
+        self.first(self.length)
+    }
+
+    // The first n bytes of the buffer; all, if there are fewer.
+    pub fn first(&self, n: usize) -> &[u8] {
+        self.buffer.get(..n).unwrap_or(&self.buffer)
+    }
 }

@@ -1,25 +1,24 @@
 // The sheets of version 2 that the cases start from, put into a buffer that is 0. Four are those of sheets.rt, with
 // another version and with the groups' numbers (SHEET-14 of docs/RULES.md) in the partners' place.
+use super::bases::Shape;
 use super::sheets;
-use super::sheets::{ONE, put_bytes, put_header};
-use case_rows::put;
+use super::sheets::{put_bytes, put_header, put_route};
+use bigendian::put;
 
 // Stores the number of turnout n's group.
 fn put_number(s: &mut [u8], n: u8, number: u8) {
-    put(s, 9 + 3 * (n as usize), number);
+    put(s, 9 + 3 * usize::from(n), number);
 }
 
-// Stores the version.
-fn put_version(s: &mut [u8]) {
-    put(s, 4, 2);
-}
-
-// Stores station K in 50 bytes that are 0: 0 and 1 are group 0 (K-1).
-pub fn put_k(s: &mut [u8]) {
-    sheets::put_k(s);
-    put_version(s);
-    put_number(s, 0, 0);
-    put_number(s, 1, 0);
+// Stores a sheet that there is in both versions.
+pub fn put_shape(s: &mut [u8], shape: Shape) {
+    sheets::put_shape(s, shape);
+    put(s, 4, 2u8);
+    match shape {
+        Shape::StationK => put_k_numbers(s),
+        Shape::Larger => put_larger_numbers(s),
+        Shape::Largest { .. } => put_largest_numbers(s),
+    }
 }
 
 // Stores two turnouts' number.
@@ -28,47 +27,24 @@ fn put_pair(s: &mut [u8], lower: u8, higher: u8, number: u8) {
     put_number(s, higher, number);
 }
 
-// Stores the larger sheet in 131 bytes that are 0: 1 and 2 are group 0, 4 and 5 group 1, 6 and 7 group 2.
-pub fn put_large(s: &mut [u8]) {
-    sheets::put_large(s);
-    put_version(s);
+// Stores the groups' numbers of station K: 0 and 1 are group 0 (K-1).
+fn put_k_numbers(s: &mut [u8]) {
+    put_pair(s, 0, 1, 0);
+}
+
+// Stores those of the larger sheet: 1 and 2 are group 0, 4 and 5 group 1, 6 and 7 group 2.
+fn put_larger_numbers(s: &mut [u8]) {
     put_pair(s, 1, 2, 0);
     put_pair(s, 4, 5, 1);
     put_pair(s, 6, 7, 2);
 }
 
-// The number of turnout n's group in the largest sheet. The lower ends are 0 to 7, 16 to 23, 32 to 39, 48 to 55: the
-// groups are 0 to 7 of the first 16 turnouts, 8 to 15 of the next, and so on to 31, that of 55 and 63.
-fn number_of(n: u8) -> u8 {
-    n / 16 * 8 + n % 8
-}
-
-// Stores the largest sheet, 2,312 bytes: 64 turnouts in 32 groups and 64 routes, with 1 to 8 zones.
-pub fn put_largest(s: &mut [u8], zones: u8) {
-    sheets::put_largest(s, zones);
-    put_version(s);
-    let mut n: u8 = 0;
-    while n < 64 {
-        put_number(s, n, number_of(n));
-        n += 1;
+// Stores those of the largest sheet, with 64 turnouts in 32 groups. The lower ends are 0 to 7, 16 to 23, 32 to 39, 48
+// to 55: the groups are 0 to 7 of the first 16 turnouts, 8 to 15 of the next, and so on to 31, that of 55 and 63.
+fn put_largest_numbers(s: &mut [u8]) {
+    for n in 0..64u8 {
+        put_number(s, n, n / 16 * 8 + n % 8);
     }
-}
-
-// Stores a set of turnouts below 16 in the last two of its bytes.
-fn put_set(s: &mut [u8], at: u8, set: u16) {
-    let at = at as usize;
-    put(s, at + 6, (set / 256) as u8);
-    put(s, at + 7, (set % 256) as u8);
-}
-
-// Stores a route whose sets have turnouts below 16 only: its zone, run over, flank, exit zone, reverse.
-fn put_route(s: &mut [u8], n: u8, zone: u8, sets: [u16; 4]) {
-    let at = 56 + 33 * (n % 4);
-    put(s, at as usize, zone);
-    put_set(s, at + 1, sets[0]);
-    put_set(s, at + 9, sets[1]);
-    put_set(s, at + 17, sets[2]);
-    put_set(s, at + 25, sets[3]);
 }
 
 // Stores a sheet with groups in 188 bytes that are 0: P = 16, R = 4, Z = 2. Turnouts 0 to 6 are in zone 0, the others
@@ -81,10 +57,10 @@ fn put_route(s: &mut [u8], n: u8, zone: u8, sets: [u16; 4]) {
 pub fn put_groups(s: &mut [u8]) {
     put_header(s, 2, 16, 4, 2);
     put_turnouts_of_groups(s);
-    put_route(s, 0, 0, [1, 42, 4, 9]);
-    put_route(s, 1, 0, [18, 68, 8, 70]);
-    put_route(s, 2, 1, [2432, 0, 32768, 33024]);
-    put_route(s, 3, 1, [2048, 63360, 0, 4224]);
+    put_route(s, 56, 0, [1, 42, 4, 9]);
+    put_route(s, 89, 0, [18, 68, 8, 70]);
+    put_route(s, 122, 1, [2432, 0, 32768, 33024]);
+    put_route(s, 155, 1, [2048, 63360, 0, 4224]);
 }
 
 // Stores its turnouts: 0 to 6, 7 to 11, 12 to 15.
@@ -104,28 +80,22 @@ fn put_turnouts_of_groups(s: &mut [u8]) {
 // 30 and by hand, and so on, the two drives in turn, to 7, 15, .. 63, group 24. All are in zone 0.
 fn put_turnout_of_eight(s: &mut [u8], n: u8) {
     put_number(s, n, 31 - n % 8);
-    put(s, 10 + 3 * (n as usize), n % 2);
+    put(s, 10 + 3 * usize::from(n), n % 2);
 }
 
 // Stores route n of that sheet: it runs over {n}, which lies reverse if n is odd, and its flank is the whole group of
 // turnout n + 1, or of turnout 0 for route 63.
 fn put_route_of_eight(s: &mut [u8], n: u8) {
-    let one = ONE[((n as usize) + 1) % 8];
-    sheets::put_route_of_many(s, n, 1);
-    put_bytes(
-        s,
-        209 + 33 * (n as usize),
-        &[one, one, one, one, one, one, one, one],
-    );
+    let flank = u64::from_be_bytes([1 << ((n % 64 + 1) % 8); 8]);
+    let sets = [1 << (n % 64), flank, 0, sheets::reverse(n)];
+    put_route(s, 200 + 33 * u16::from(n), 0, sets);
 }
 
 // Stores the largest sheet with groups of eight, 2,312 bytes.
 pub fn put_eights(s: &mut [u8]) {
     put_header(s, 2, 64, 64, 1);
-    let mut n: u8 = 0;
-    while n < 64 {
+    for n in 0..64u8 {
         put_turnout_of_eight(s, n);
         put_route_of_eight(s, n);
-        n += 1;
     }
 }

@@ -55,141 +55,91 @@ mod splitting;
 mod stations;
 mod writing;
 
-use case_rows::{number_at, put_pairs};
+use bases::{Base, Shape, Sheet};
+use case_rows::Row;
+use refusals::Refusal;
+use station::Station;
 use std::io;
 use std::io::Read;
 
-// Writes a space and a number.
-fn write_number(rt: &impl Print, n: u64) -> io::Result<()> {
-    print!(rt; " {n}")
+// Writes the code of an answer, and the index that a refusal names.
+fn write_finding<T: Copy>(rt: &impl Print, answer: Result<T, Refusal>) -> io::Result<()> {
+    let index = answer.err().map_or(0, |refusal| refusal.index());
+    print!(rt; " {} {index}", refusals::code(answer))
 }
 
-// Writes the code and the index that reading a sheet gave.
-fn write_finding(rt: &impl Print, r: sheet::Sheet) -> io::Result<()> {
-    write_number(rt, r.code as u64)?;
-    write_number(rt, r.index as u64)
+// What reading a sheet gives, in the length and with the damage of the row.
+fn read(mut sheet: Sheet, row: &mut Row<'_>) -> Result<Station, Refusal> {
+    let n = usize::from(row.number());
+    row.put_pairs(&mut sheet.buffer);
+    sheet::read_sheet(sheet.first(n))
 }
 
-// Writes what reading a sheet gives.
-fn write_reading(rt: &impl Print, s: &[u8], base: u16) -> io::Result<()> {
-    let r = sheet::read_sheet(s);
-    if base == 5 {
-        return write_number(rt, stations::sum(r.station));
-    }
-    write_finding(rt, r)
+// Tries the sheet of a base number.
+fn sheet_tried(rt: &impl Print, number: u16, row: &mut Row<'_>) -> io::Result<()> {
+    write_finding(rt, read(Sheet::of(Base::try_from(number)), row))
 }
 
-// The first n bytes; all, if there are fewer.
-fn first<'a>(s: &'a [u8], n: usize) -> &'a [u8] {
-    if s.len() < n {
-        return s;
-    }
-    &s[..n]
+// Tries station K's sheet.
+fn station_k_tried(rt: &(impl Print + Alloc), row: &mut Row<'_>) -> io::Result<()> {
+    let answer = read(Sheet::of(Ok(Base::Version1(Shape::StationK))), row);
+    let st = answer.unwrap_or(Station::empty());
+    print!(rt; " {}", stations::sum(rt.alloc(), &st)?)
 }
 
-// The sheet to start from.
-fn sheet_of(base: u16) -> u16 {
-    if base == 5 {
-        return 1;
-    }
-    base
+// Tries the question of the row.
+fn question_tried(rt: &impl Print, question: u16, row: &mut Row<'_>) -> io::Result<()> {
+    let count = row.number();
+    let number = row.number();
+    let st = stations::asked(count, number);
+    print!(rt; " {}", stations::answer(st, question, row.number()))
 }
 
-// Tries the sheet that the line has from a place on; the place after it.
-fn sheet_tried(rt: &impl Print, input: &[u8], base: u16, at: usize) -> io::Result<usize> {
-    let n = number_at(input, at);
-    let mut s = [0u8; 2312];
-    bases::put_base(&mut s, sheet_of(base));
-    let next = put_pairs(&mut s, input, n.next);
-    write_reading(rt, first(&s, n.value as usize), base)?;
-    Ok(next)
-}
-
-// Tries the question that the line has from a place on; the place after it.
-fn question_tried(rt: &impl Print, input: &[u8], question: u16, at: usize) -> io::Result<usize> {
-    let count = number_at(input, at);
-    let number = number_at(input, count.next);
-    let n = number_at(input, number.next);
-    let st = stations::asked(count.value, number.value);
-    write_number(rt, stations::answer(st, question, n.value))?;
-    Ok(n.next)
-}
-
-// Tries what stands after the name; the place after it.
-fn rest_tried(rt: &impl Print, input: &[u8], at: usize) -> io::Result<usize> {
-    let first = number_at(input, at);
-    let number = first.value;
+// Tries what stands after the name. The numbers are looked at here alone: an enum would be a second table of them.
+fn rest_tried(rt: &(impl Print + Alloc), row: &mut Row<'_>) -> io::Result<()> {
+    let number = row.number();
     match number {
-        6 => panels::tried(rt, input, first.next),
-        7 => splitting::tried(rt, input, first.next),
-        8 => splitting::tied_tried(rt, input, first.next),
-        40 => comparing::stations_tried(rt, input, first.next),
-        41 => numbers::plain_tried(rt, input, first.next),
-        42 => numbers::base_tried(rt, input, first.next),
-        43 => comparing::copy_tried(rt, input, first.next),
-        _ => tens_tried(rt, input, number, first.next),
+        5 => station_k_tried(rt, row),
+        6 => panels::tried(rt, row),
+        7 => splitting::tried(rt, row),
+        8 => splitting::tied_tried(rt, row),
+        10..=19 => question_tried(rt, number, row),
+        40 => comparing::stations_tried(rt, row),
+        41 => numbers::tried(rt, panels::plain(row), row),
+        42 => numbers::tried(rt, Sheet::of(Base::try_from(row.number())), row),
+        43 => comparing::copy_tried(rt, row),
+        20..=29 | 50.. => writing::tried(rt, number - 20, row),
+        _ => sheet_tried(rt, number, row),
     }
 }
 
-// Tries a line whose number is one of many alike: a sheet, a question, or a station that is written.
-fn tens_tried(rt: &impl Print, input: &[u8], number: u16, at: usize) -> io::Result<usize> {
-    if number < 10 {
-        return sheet_tried(rt, input, number, at);
-    }
-    if number < 20 {
-        return question_tried(rt, input, number, at);
-    }
-    if number < 30 {
-        return writing::tried(rt, input, number - 20, at);
-    }
-    if number < 50 {
-        return sheet_tried(rt, input, number, at);
-    }
-    writing::tried(rt, input, number - 20, at)
+// Writes the name of the row, and tries what stands after it.
+fn row_tried(rt: &(impl Print + Alloc), row: &mut Row<'_>) -> io::Result<()> {
+    rt.write_all(row.name())?;
+    rest_tried(rt, row)?;
+    row.skip();
+    rt.write_all(b"\n")
 }
 
-// Tries the line at a place, if there is one and it is no remark; the place of the next line.
-fn line_tried(rt: &impl Print, input: &[u8], at: usize) -> io::Result<usize> {
-    let first = case_rows::byte_at(input, at);
-    if first == b'\n' {
-        return Ok(at);
-    }
-    if first == b'#' {
-        return Ok(case_rows::after_line(input, at));
-    }
-    rt.write_all(case_rows::name(input, at))?;
-    let next = rest_tried(rt, input, case_rows::after_name(input, at))?;
-    rt.write_all(b"\n")?;
-    Ok(case_rows::after(next))
-}
-
-// Tries every line, at most 1,600.
-fn all_tried(rt: &impl Print, input: &[u8]) -> io::Result<()> {
-    let mut at: usize = 0;
-    let mut i: usize = 0;
-    while i < 1600 {
-        at = line_tried(rt, input, at)?;
-        i += 1;
+// Tries every row that is no remark; remarks and rows are at most 1,600. Each program of rows has this loop: a library's
+// call would owe a clause on what is printed.
+fn all_tried(rt: &(impl Print + Alloc), row: &mut Row<'_>) -> io::Result<()> {
+    for _ in 0..1600u16 {
+        match row.byte() {
+            b'\n' => return Ok(()),
+            b'#' => row.skip_line(),
+            _ => row_tried(rt, row)?,
+        }
     }
     Ok(())
 }
 
-// Reads the input until it ends, a read fails or the buffer is full; what is past it in the buffer stays as it was.
-fn read_input<R: Read>(reader: &mut R, buf: &mut [u8]) {
-    let mut done: usize = 0;
-    while done < buf.len() {
-        let Ok(n) = reader.read(&mut buf[done..]) else {
-            return;
-        };
-        if n == 0 {
-            return;
-        }
-        done += n;
-    }
-}
-
 fn main(rt: HostRuntime) -> io::Result<()> {
-    let mut input = [b'\n'; 65536];
-    read_input(&mut rt.reader(), &mut input);
-    all_tried(&rt, &input)
+    let mut input = Vec::new(rt.alloc());
+    rt.reader().take(65536).read_to_end(&mut input)?;
+    let mut row = Row {
+        text: input.as_slice(),
+        at: 0,
+    };
+    all_tried(&rt, &mut row)
 }

@@ -1,64 +1,54 @@
 // Sheets for the cabin panel (PANEL-1 to PANEL-3 of docs/RULES.md): plain ones of any counts, read by the panel and by
 // the desk.
-use super::sheets::put_header;
-use super::{first, stations, write_finding, write_number};
-use case_rows::{number_at, put, put_pairs};
+use super::bases::{LONGEST, Sheet};
+use super::sheets::{put_header, put_route};
+use super::{stations, write_finding};
+use bigendian::put;
+use case_rows::Row;
+use refusals::Refusal;
+use station::Station;
 use std::io;
 
-// Stores turnout n in bytes that are 0: in zone 0, alone, electric.
-fn put_turnout(s: &mut [u8], n: u8) {
-    put(s, 9 + 3 * (n as usize), 255);
-}
-
+// Stores turnouts in bytes that are 0: in zone 0, alone, electric.
 fn put_turnouts(s: &mut [u8], p: u8) {
-    let mut n: u8 = 0;
-    while n < p {
-        put_turnout(s, n);
-        n += 1;
+    for n in 0..p {
+        put(s, 9 + 3 * usize::from(n), 255u8);
     }
 }
 
-// Stores route n, after P turnouts, in bytes that are 0: in zone 0 and over {0}, its other sets empty.
-fn put_route(s: &mut [u8], p: u8, n: u8) {
-    put(s, 8 + 3 * (p as usize) + 33 * (n as usize) + 8, 1);
-}
-
+// Stores routes, after P turnouts, in bytes that are 0: in zone 0 and over {0}, their other sets empty.
 fn put_routes(s: &mut [u8], p: u8, r: u8) {
-    let mut n: u8 = 0;
-    while n < r {
-        put_route(s, p, n);
-        n += 1;
+    for n in 0..r {
+        put_route(s, 8 + 3 * u16::from(p) + 33 * u16::from(n), 0, [1, 0, 0, 0]);
     }
 }
 
-// Stores a plain sheet of version 1 with P turnouts, R routes and one zone in bytes that are 0; what does not fit is
-// left off. With version 2 it is good too: every turnout is alone.
-pub fn put_plain(s: &mut [u8], p: u8, r: u8) {
-    put_header(s, 1, p, r, 1);
-    put_turnouts(s, p);
-    put_routes(s, p, r);
+// The plain sheet of version 1 with one zone and with the counts of turnouts and of routes that are next, modulo 256;
+// what does not fit is left off. With version 2 it is good too: every turnout is alone.
+pub fn plain(row: &mut Row<'_>) -> Sheet {
+    let p = (row.number() % 256) as u8;
+    let r = (row.number() % 256) as u8;
+    let mut buffer = [0; LONGEST];
+    put_header(&mut buffer, 1, p, r, 1);
+    put_turnouts(&mut buffer, p);
+    put_routes(&mut buffer, p, r);
+    let length = 8 + 3 * usize::from(p) + 33 * usize::from(r);
+    Sheet { buffer, length }
 }
 
-// Writes what a reading gave: the code, the index, and the sum of the station.
-fn write_all_of(rt: &impl Print, r: sheet::Sheet) -> io::Result<()> {
-    write_finding(rt, r)?;
-    write_number(rt, stations::sum(r.station))
+// Writes what a reading gave: the code, the index, and the sum of the station, the empty one where it refuses.
+fn write_all_of(rt: &(impl Print + Alloc), answer: Result<Station, Refusal>) -> io::Result<()> {
+    write_finding(rt, answer)?;
+    let st = answer.unwrap_or(Station::empty());
+    print!(rt; " {}", stations::sum(rt.alloc(), &st)?)
 }
 
-// Writes what the panel's reading of the bytes gives, then the desk's.
-fn write_both(rt: &impl Print, s: &[u8]) -> io::Result<()> {
+// Tries the plain sheet of the row: writes what the panel's reading of its bytes gives, then the desk's.
+pub fn tried(rt: &(impl Print + Alloc), row: &mut Row<'_>) -> io::Result<()> {
+    let mut sheet = plain(row);
+    let n = usize::from(row.number());
+    row.put_pairs(&mut sheet.buffer);
+    let s = sheet.first(n);
     write_all_of(rt, panel::read_panel_sheet(s))?;
     write_all_of(rt, sheet::read_sheet(s))
-}
-
-// Tries the plain sheet that the line has from a place on; the place after it.
-pub fn tried(rt: &impl Print, input: &[u8], at: usize) -> io::Result<usize> {
-    let p = number_at(input, at);
-    let r = number_at(input, p.next);
-    let n = number_at(input, r.next);
-    let mut s = [0u8; 2312];
-    put_plain(&mut s, (p.value % 256) as u8, (r.value % 256) as u8);
-    let next = put_pairs(&mut s, input, n.next);
-    write_both(rt, first(&s, n.value as usize))?;
-    Ok(next)
 }

@@ -1,193 +1,86 @@
 // Stations that are written: changes to a station's numbers, and what the writer leaves in a buffer.
-use super::stations::plus;
-use super::{bases, first, write_number};
-use case_rows::{byte_at, number_at};
+use super::bases::{Base, Sheet};
+use case_rows::Row;
 use station::{Route, Station, Turnout};
 use std::io;
 
 // Every byte of the buffer before the call.
 pub const BEFORE: u8 = 170;
 
-// A station, and the place in the input after its changes so far.
-#[derive(Clone, Copy)]
-struct Changed {
-    station: Station,
-    next: usize,
-}
-
-// The station with another count: 0 of turnouts, 1 of routes, 2 of zones.
-fn with_count(st: Station, j: u16, value: u8) -> Station {
+// Puts a number into a turnout: 0 the zone, 1 the number of its group, 2 the drive.
+fn put_in_turnout(t: &mut Turnout, j: usize, value: u8) {
     match j {
-        0 => Station {
-            turnouts: value,
-            ..st
-        },
-        1 => Station {
-            routes: value,
-            ..st
-        },
-        _ => Station { zones: value, ..st },
+        0 => t.zone = value,
+        1 => t.group = value,
+        _ => t.drive = value,
     }
 }
 
-// The turnout with another number: 0 the zone, 1 the number of its group, 2 the drive.
-fn turnout_with(t: Turnout, j: u16, value: u8) -> Turnout {
+// Puts a number into a route: 0 the zone, 1 run over, 2 flank, 3 exit zone, 4 reverse.
+fn put_in_route(r: &mut Route, j: usize, value: u16) {
+    let set = u64::from(value);
     match j {
-        0 => Turnout { zone: value, ..t },
-        1 => Turnout { group: value, ..t },
-        _ => Turnout { drive: value, ..t },
+        0 => r.zone = (value % 256) as u8,
+        1 => r.over = set,
+        2 => r.flank = set,
+        3 => r.exits = set,
+        _ => r.reverse = set,
     }
 }
 
-// The route with another number: 0 the zone, 1 run over, 2 flank, 3 exit zone, 4 reverse.
-fn route_with(r: Route, j: u16, value: u16) -> Route {
-    let set = value as u64;
-    match j {
-        0 => Route {
-            zone: (value % 256) as u8,
-            ..r
-        },
-        1 => Route { over: set, ..r },
-        2 => Route { flank: set, ..r },
-        3 => Route { exits: set, ..r },
-        _ => Route { reverse: set, ..r },
-    }
-}
-
-// The station with another number in a turnout, by its place among the numbers of all turnouts.
-fn with_turnout(st: Station, place: u16, value: u8) -> Station {
-    let n = (place / 3 % 64) as usize;
-    let mut ts = st.turnout;
-    ts[n] = turnout_with(ts[n], place % 3, value);
-    Station { turnout: ts, ..st }
-}
-
-// The station with another number in a route, by its place among the numbers of all routes.
-fn with_route(st: Station, place: u16, value: u16) -> Station {
-    let n = (place / 5 % 64) as usize;
-    let mut rs = st.route;
-    rs[n] = route_with(rs[n], place % 5, value);
-    Station { route: rs, ..st }
-}
-
-// The station with another number at a place.
-fn with_number(st: Station, place: u16, value: u16) -> Station {
+// Puts a number at a place of a station (main.rt).
+fn put_number(st: &mut Station, place: u16, value: u16) {
+    let place = usize::from(place);
     let byte = (value % 256) as u8;
-    if place < 3 {
-        return with_count(st, place, byte);
-    }
-    if place < 195 {
-        return with_turnout(st, place - 3, byte);
-    }
-    if place < 515 {
-        return with_route(st, place - 195, value);
-    }
-    st
-}
-
-// The station with the next change, if there is one.
-fn with_pair(input: &[u8], c: Changed) -> Changed {
-    if byte_at(input, c.next) != b' ' {
-        return c;
-    }
-    let place = number_at(input, c.next);
-    let value = number_at(input, place.next);
-    let st = c.station;
-    Changed {
-        station: with_number(st, place.value, value.value),
-        next: value.next,
+    match place {
+        0 => st.turnouts = byte,
+        1 => st.routes = byte,
+        2 => st.zones = byte,
+        3..195 => put_in_turnout(&mut st.turnout[(place - 3) / 3], place % 3, byte),
+        195..515 => put_in_route(&mut st.route[(place - 195) / 5], place % 5, value),
+        _ => {}
     }
 }
 
-// The station with the changes from a place on, at most 16, and the place after them.
-fn with_pairs(input: &[u8], st: Station, at: usize) -> Changed {
-    let mut c = Changed {
-        station: st,
-        next: at,
-    };
-    let mut i: usize = 0;
-    while i < 16 {
-        c = with_pair(input, c);
-        i += 1;
-    }
-    c
-}
-
-// How many bytes at the start of the buffer are those of a sheet.
-pub fn same(s: &[u8], sheet: &[u8]) -> usize {
-    let mut i: usize = 0;
-    while i < sheet.len() {
-        if s.len() <= i {
-            return i;
+// Makes the changes of the row, at most 16.
+fn change(st: &mut Station, row: &mut Row<'_>) {
+    for _ in 0..16u8 {
+        if row.byte() != b' ' {
+            return;
         }
-        if s[i] != sheet[i] {
-            return i;
-        }
-        i += 1;
+        let place = row.number();
+        let value = row.number();
+        put_number(st, place, value);
     }
-    i
 }
 
-// How many bytes of the buffer from a place on are as they were before the call.
-pub fn untouched(s: &[u8], from: usize) -> u64 {
-    let mut n: u64 = 0;
-    let mut i = from;
-    while i < s.len() {
-        n = plus(n, (s[i] == BEFORE) as u64);
-        i += 1;
-    }
-    n
+// Writes how many bytes at the start of the buffer are those of a sheet, and how many of the rest are as they were
+// before the call.
+pub fn write_left(rt: &impl Print, s: &[u8], sheet: &[u8]) -> io::Result<()> {
+    let same = s.iter().zip(sheet).take_while(|(a, b)| **a == **b).count();
+    let untouched = s.iter().skip(same).filter(|b| **b == BEFORE).count();
+    print!(rt; " {same} {untouched}")
 }
 
-// Tries to write the sheet of a station into a buffer, and puts out the three numbers.
+// Writes the sheet of a station into a buffer, and writes what comes of it, beside a sheet.
 fn buffer_tried(rt: &impl Print, st: Station, s: &mut [u8], sheet: &[u8]) -> io::Result<()> {
-    let code = sheet_writer::write_sheet(st, s);
-    let n = same(s, sheet);
-    write_number(rt, code as u64)?;
-    write_number(rt, n as u64)?;
-    write_number(rt, untouched(s, n))
+    let answer = sheet_writer::write_sheet(st, s);
+    print!(rt; " {}", refusals::code(answer))?;
+    write_left(rt, s, sheet)
 }
 
-// Tries it with the first n bytes of a buffer; tries nothing if there are fewer.
-fn part_tried(
-    rt: &impl Print,
-    st: Station,
-    s: &mut [u8],
-    n: usize,
-    sheet: &[u8],
-) -> io::Result<()> {
-    if s.len() < n {
-        return Ok(());
+// Tries the station of a base number with the changes of the row, beside what it should be written as without them.
+// Where the number names no sheet, no bytes are read, which gives the empty station.
+pub fn tried(rt: &impl Print, number: u16, row: &mut Row<'_>) -> io::Result<()> {
+    let base = Base::try_from(number);
+    let n = usize::from(row.number());
+    let answer = sheet::read_sheet(Sheet::of(base).bytes());
+    let mut st = answer.unwrap_or(Station::empty());
+    change(&mut st, row);
+    let written = Sheet::of(base.map(Base::written));
+    let mut buffer = [BEFORE; 2400];
+    if let Some(s) = buffer.get_mut(..n) {
+        buffer_tried(rt, st, s, written.bytes())?;
     }
-    buffer_tried(rt, st, &mut s[..n], sheet)
-}
-
-// Tries what the line has from a place on, with a sheet to start from and what writing its station gives; the place
-// after it.
-fn sheet_tried(
-    rt: &impl Print,
-    input: &[u8],
-    at: usize,
-    sheet: &[u8],
-    written: &[u8],
-) -> io::Result<usize> {
-    let n = number_at(input, at);
-    let read = sheet::read_sheet(sheet);
-    let st = read.station;
-    let c = with_pairs(input, st, n.next);
-    let changed = c.station;
-    let mut s = [BEFORE; 2400];
-    part_tried(rt, changed, &mut s, n.value as usize, written)?;
-    Ok(c.next)
-}
-
-// Tries the station of a base number; the place after the line. Where it names no sheet, no bytes are read, which
-// gives the empty station.
-pub fn tried(rt: &impl Print, input: &[u8], base: u16, at: usize) -> io::Result<usize> {
-    let mut s = [0u8; 2312];
-    let mut w = [0u8; 2312];
-    bases::put_base(&mut s, base);
-    bases::put_base(&mut w, bases::written(base));
-    let n = bases::base_length(base);
-    sheet_tried(rt, input, at, first(&s, n), first(&w, n))
+    Ok(())
 }

@@ -1,10 +1,9 @@
 // Small functions on the numbers and records of a station, for its observers and for the crates that read it.
-ghost use Rattle.std.specs.Prelude.{◌≡◌, cond, min, get_or, replicate, Bool};
-ghost use Rattle.sets.specs.Sets.{single, union};
-ghost use Rattle.station.specs.Station.{empty_turnout, empty_route, turnouts_meeting};
+ghost use Rattle.std.specs.Prelude.{◌≡◌, min, get_or, replicate, Bool};
+ghost use Rattle.station.specs.Station.{empty_turnout, turnouts_meeting};
 ghost use Rattle.station.specs.declared.Turnout.{Turnout};
 
-use super::{Route, TURNOUTS, Turnout, ZONES};
+use super::{TURNOUTS, Turnout, ZONES};
 
 // A test of a turnout by its record.
 pub trait TurnoutTest {
@@ -32,8 +31,7 @@ pub fn record_of(ts: [Turnout; 64], n: usize) -> Turnout
     ts.get(n).copied().unwrap_or(Turnout::NONE)
 }
 
-// What stands here until its callers have moved: `usize::from(n).min(TURNOUTS)` and `.min(ZONES)`,
-// `[Turnout::NONE; 64]`, `[Route::NONE; 64]`, `sets::add_if`.
+// What stands here until its callers have moved: `usize::from(n).min(TURNOUTS)`, `.min(ZONES)`, `[Turnout::NONE; 64]`.
 pub fn at_most_64(n: u8) -> usize
     ensures { result ≡ min n 64 }
 {
@@ -51,18 +49,4 @@ pub fn no_turnouts() -> [Turnout; 64]
     ensures { result ≡ replicate 64 empty_turnout }
 {
     [Turnout::NONE; 64]
-}
-
-// 64 route records that are 0.
-pub fn no_routes() -> [Route; 64]
-    ensures { result ≡ replicate 64 empty_route }
-{
-    [Route::NONE; 64]
-}
-
-// The set with turnout n added where the test holds.
-pub fn with_turnout(s: u64, n: usize, test: bool) -> u64
-    ensures { result ≡ union s (cond test (single n) 0) }
-{
-    sets::add_if(s, n, test)
 }

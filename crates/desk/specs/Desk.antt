@@ -2,19 +2,27 @@
 -- ZONE-2 (docs/RULES.md). CALL-4 is the order of all checks: 10, 11, 13, 12, 14, then those of the
 -- kind.
 use Rattle.std.specs.Prelude.{Bool, cond, not, List, ℕ, eqb, ltb, get_or, set, replicate}
+use Rattle.std.specs.Prelude.{Result, Ok, Err}
+use Rattle.refusals.specs.declared.Refusal.{Refusal}
+use Rattle.refusals.specs.Numbers.{number_of}
 use Rattle.station.specs.declared.Station.{Station}
 use Rattle.station.specs.Station.{zone_count}
 use Rattle.message.specs.declared.Message.{Message}
 use Rattle.message.specs.Fields.{field_number}
 use Rattle.message.specs.Record.{read_record}
 use Rattle.zone.specs.declared.Zone.{Zone}
-use Rattle.zone.specs.declared.Answer.{Answer}
-use Rattle.zone.specs.Zone.{fresh_zone, no_zone, refused_in}
+use Rattle.zone.specs.Zone.{Answer, fresh_zone, no_zone, refused_in}
 use Rattle.rules.specs.declared.Concerned.{Concerned}
 use Rattle.rules.specs.Routes.{concerned}
 use Rattle.rules.specs.Kinds.{heard, heard_on}
 use Rattle.desk.specs.declared.Desk.{Desk}
-use Rattle.desk.specs.declared.Applied.{Applied}
+use Rattle.desk.specs.declared.After.{After}
+
+-- the answer to a message: its code, the minutes, and the desk after it
+pub record Applied : Type 0 where
+  pub code : ℕ
+  pub minutes : ℕ
+  pub desk : Desk
 
 -- ZONE-2: "A fresh desk has no work and no movement in any zone, recorders working, times 0."
 unfoldable pub fresh_desk : Desk
@@ -26,6 +34,11 @@ zone_at d n = get_or d.zones n no_zone
 -- a refusal, CALL-3: "nothing altered"
 abbrev pub refused_by : Desk → ℕ → Applied
 refused_by d number = record { code = number; minutes = 0; desk = d }
+
+-- the answer that the desk's result stands for: 0, the minutes and the desk after it, or a refusal
+abbrev pub applied_of : Desk → Result After Refusal → Applied
+applied_of d (Ok a) = record { code = 0; minutes = a.minutes; desk = a.desk }
+applied_of d (Err e) = refused_by d (number_of e)
 
 -- the desk with zone n as an answer leaves it
 abbrev pub put_back : Desk → ℕ → Answer → Applied

@@ -1,22 +1,48 @@
 -- The two questions, ASK-1 to ASK-4 (docs/RULES.md): "Two questions change nothing."
-use Rattle.std.specs.Prelude.{false, cond, not, ◌&&◌, ℕ, ltb}
+use Rattle.std.specs.Prelude.{Bool, false, cond, not, ◌&&◌, ℕ, ltb, Result, Ok, Err, unwrap_or}
+use Rattle.refusals.specs.declared.Refusal.{Refusal}
+use Rattle.refusals.specs.Numbers.{number_of}
 use Rattle.sets.specs.Sets.{has, is_empty, count, lowest}
 use Rattle.station.specs.declared.Station.{Station}
 use Rattle.station.specs.Station.{turnout_count, zone_count, zone_of}
 use Rattle.zone.specs.declared.Zone.{Zone}
+use Rattle.zone.specs.declared.Regime.{Regime}
 use Rattle.zone.specs.declared.Regime.TheVariants.{Held}
 use Rattle.zone.specs.Work.{open_set}
 use Rattle.zone.specs.Movement.{is_standing, lacking, regime_of}
 use Rattle.zone.specs.Trains.{movement_under}
 use Rattle.zone.specs.Zone.{work_of}
 use Rattle.desk.specs.declared.Desk.{Desk}
-use Rattle.desk.specs.declared.MovementAnswer.{MovementAnswer}
-use Rattle.desk.specs.declared.WorkAnswer.{WorkAnswer}
+use Rattle.desk.specs.declared.MovementState.{MovementState}
 use Rattle.desk.specs.Desk.{zone_at}
+
+-- the answer to the movement question: its code, the regime, the lowest-numbered turnout still
+-- lacking a clearance or a key, how many lack one
+pub record MovementAnswer : Type 0 where
+  pub code : ℕ
+  pub regime : Regime
+  pub lowest : ℕ
+  pub count : ℕ
+
+-- the answer to the work question: its code, and whether the turnout is open to work
+pub record WorkAnswer : Type 0 where
+  pub code : ℕ
+  pub yes : Bool
 
 -- ASK-2: "The first is refused by 12, then 15, and returns held, 255 and 0"
 abbrev pub movement_refused : ℕ → MovementAnswer
 movement_refused number = record { code = number; regime = Held; lowest = 255; count = 0 }
+
+-- the answer that the result of the movement question stands for; 255 for no lowest turnout
+abbrev pub movement_answer_of : Result MovementState Refusal → MovementAnswer
+movement_answer_of (Ok s) =
+    record { code = 0; regime = s.regime; lowest = unwrap_or s.lowest 255; count = s.count }
+movement_answer_of (Err e) = movement_refused (number_of e)
+
+-- the answer that the result of the work question stands for
+abbrev pub work_answer_of : Result Bool Refusal → WorkAnswer
+work_answer_of (Ok answer) = record { code = 0; yes = answer }
+work_answer_of (Err e) = record { code = number_of e; yes = false }
 
 -- ASK-1: "the lowest-numbered turnout still lacking one", a clearance or a key, 255 if none
 abbrev pub lowest_of : ℕ → ℕ

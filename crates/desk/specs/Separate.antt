@@ -6,8 +6,7 @@ use Rattle.station.specs.declared.Station.{Station}
 use Rattle.station.specs.Station.{zone_count, zone_of}
 use Rattle.message.specs.declared.Message.{Message}
 use Rattle.desk.specs.declared.Desk.{Desk}
-use Rattle.desk.specs.declared.Applied.{Applied}
-use Rattle.desk.specs.Desk.{zone_at, reached}
+use Rattle.desk.specs.Desk.{Applied, zone_at, reached}
 use Rattle.desk.specs.Questions.{movement_answered, work_answered}
 
 -- two desks of eight zones that are the same in zone n, whatever is in the others

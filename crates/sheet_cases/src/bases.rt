@@ -67,6 +67,13 @@ impl Base {
         }
     }
 
+    pub fn sheet(self) -> Sheet {
+        let mut buffer = [0; LONGEST];
+        self.put(&mut buffer);
+        let length = self.length();
+        Sheet { buffer, length }
+    }
+
     // What writing the station of the sheet gives (WRITE-1, WRITE-2 of docs/RULES.md): the same in version 2.
     pub fn written(self) -> Base {
         match self {
@@ -87,13 +94,11 @@ pub struct Sheet {
 impl Sheet {
     // The sheet that a base number names; no bytes where it names none.
     pub fn of(base: Result<Base, UnknownBase>) -> Sheet {
-        let mut buffer = [0; LONGEST];
-        let Ok(base) = base else {
-            return Sheet { buffer, length: 0 };
+        let none = Sheet {
+            buffer: [0; LONGEST],
+            length: 0,
         };
-        base.put(&mut buffer);
-        let length = base.length();
-        Sheet { buffer, length }
+        base.map_or(none, Base::sheet)
     }
 
     // The sheet's bytes.

@@ -82,7 +82,7 @@ fn sheet_tried(rt: &impl Print, number: u16, row: &mut Row<'_>) -> io::Result<()
 
 // Tries station K's sheet.
 fn station_k_tried(rt: &(impl Print + Alloc), row: &mut Row<'_>) -> io::Result<()> {
-    let answer = read(Sheet::of(Ok(Base::Version1(Shape::StationK))), row);
+    let answer = read(Base::Version1(Shape::StationK).sheet(), row);
     let st = answer.unwrap_or(Station::empty());
     print!(rt; " {}", stations::sum(rt.alloc(), &st)?)
 }
@@ -121,8 +121,8 @@ fn row_tried(rt: &(impl Print + Alloc), row: &mut Row<'_>) -> io::Result<()> {
     rt.write_all(b"\n")
 }
 
-// Tries every row that is no remark; remarks and rows are at most 1,600. Each program of rows has this loop: a library's
-// call would owe a clause on what is printed.
+// Tries every row that is no remark; remarks and rows are at most 1,600. Each program of rows has this loop, since a
+// library's call would owe a clause on what is printed.
 fn all_tried(rt: &(impl Print + Alloc), row: &mut Row<'_>) -> io::Result<()> {
     for _ in 0..1600u16 {
         match row.byte() {

@@ -1,5 +1,5 @@
 // What stations say: that of station K, and stations that no sheet gave. And all numbers of a station, in a row.
-use super::bases::{Base, Shape, Sheet};
+use super::bases::{Base, Shape};
 use station::{Route, Station, Turnout};
 use std::alloc::{AllocError, Allocator};
 
@@ -64,7 +64,7 @@ fn made(count: u8, number: u8) -> Station {
 // The station that a question is about: station K for count 0, else one that no sheet gave.
 pub fn asked(count: u16, number: u16) -> Station {
     if count == 0 {
-        let sheet = Sheet::of(Ok(Base::Version1(Shape::StationK)));
+        let sheet = Base::Version1(Shape::StationK).sheet();
         return sheet::read_sheet(sheet.bytes()).unwrap_or(Station::empty());
     }
     made((count % 256) as u8, (number % 256) as u8)

@@ -105,26 +105,13 @@ const CASES: [[u8; 3]; 79] = [
 ];
 
 fn main(rt: HostRuntime) -> io::Result<()> {
-    let mut i: usize = 0;
-    while i < CASES.len() {
-        print_case(&rt, CASES[i])?;
-        i += 1;
+    for [line, signal, flags] in CASES {
+        let answer = signals::judge(line, signal, flags);
+        let verdict = answer.map_or(0, u8::from);
+        println!(rt;
+            "{line} {signal} {flags} {} {verdict}",
+            refusals::code(answer)
+        )?;
     }
     Ok(())
-}
-
-// The line of one question.
-fn print_case(rt: &impl Print, case: [u8; 3]) -> io::Result<()> {
-    let ruling = signals::judge(case[0], case[1], case[2]);
-    print(rt, case[0], b" ")?;
-    print(rt, case[1], b" ")?;
-    print(rt, case[2], b" ")?;
-    print(rt, signals::ruling_code(ruling), b" ")?;
-    print(rt, signals::ruling_verdict(ruling), b"\n")
-}
-
-// A number, and what stands after it.
-fn print(rt: &impl Print, n: u8, after: &[u8]) -> io::Result<()> {
-    print!(rt; "{n}")?;
-    rt.write_all(after)
 }

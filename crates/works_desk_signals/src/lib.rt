@@ -11,9 +11,8 @@ ghost use Rattle.works_desk_signals.specs.Packed.{verdict_packed};
 pub extern "C" fn desk_verdict(line: u8, signal: u8, flags: u8) -> u32
     ensures { result ≡ verdict_packed (judged line signal flags) }
 {
-    let ruling = signals::judge(line, signal, flags);
-    packing::two_packed(
-        signals::ruling_code(ruling),
-        signals::ruling_verdict(ruling),
-    )
+    match signals::judge(line, signal, flags) {
+        Ok(verdict) => packing::two_packed(0, u8::from(verdict)),
+        Err(refusal) => packing::two_packed(u8::from(refusal), 0),
+    }
 }

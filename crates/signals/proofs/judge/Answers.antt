@@ -1,14 +1,18 @@
 -- The table of verdicts holds the rule: one test over the whole table, one law at each place.
-use Rattle.std.proofs.Common.{arith, ℕ, ◌≡◌, ◌≤◌, List, Bool, true, get_or, refl, ◌∙◌, rules}
-use mathlib.Core.Path.{subst⁻¹}
+use Rattle.std.proofs.Common.{arith, ℕ, ◌≡◌, List, Bool, true, get_or, refl, ◌∙◌, rules}
+use Rattle.std.proofs.lemmas.Bool.Decides.{nat_tests}
+use Rattle.std.specs.Prelude.{Result, Ok, Err}
+use mathlib.Core.Path.{subst}
 use mathlib.Core.Logic.{⊎_elim}
 use lib.Dec.{eqb}
 use borrow.Author.Tests.{eqb-true, le-leb, lt-leb}
-use Rattle.signals.specs.Answer.{judged}
+use Rattle.refusals.specs.declared.Refusal.{Refusal}
+use Rattle.signals.specs.declared.Verdict.{Verdict}
+use Rattle.signals.specs.Answer.{answer_of, judged, Decodes}
 use Rattle.signals.specs.Signals.{verdict_rule, in_range, place}
 use Rattle.signals.proofs.Constants.{lent, elements}
 use Rattle.signals.proofs.Entries.{every, at}
-use Rattle.signals.proofs.Verdicts.{known, rule_at, InRange, in-range, place_in, rule-at-place}
+use Rattle.signals.proofs.Verdicts.{Known, known, rule_at, InRange, in-range, place_in, rule-at-place}
 use Rattle.signals.proofs.judge.Code.Mir as code
 use Rattle.signals.proofs.judge.Goals as goal
 
@@ -48,29 +52,12 @@ returns-then-line-lt1 c =
     (⊎_elim (λ signal-above. search tests) (λ flags-above. search tests)))
     c.then-line-lt1.either
 
-pub verdict_of-requires-clause-le_n : goal.verdict_of-requires-clause-le_n
-unfolding table
-verdict_of-requires-clause-le_n c =
-    let a = c.args in
-    let r : InRange a.line a.signal a.flags = record {
-      first-line = omega arith;
-      last_line = omega arith;
-      last-signal = omega arith;
-      last-flags = omega arith;
-    } in
-    subst⁻¹ (λ (n : ℕ). 1 ≤ n) (entry r) (known a.line a.signal a.flags).0
-
-pub verdict_of-requires-clause-n_bound : goal.verdict_of-requires-clause-n_bound
-unfolding table
-verdict_of-requires-clause-n_bound c =
-    let a = c.args in
-    let r : InRange a.line a.signal a.flags = record {
-      first-line = omega arith;
-      last_line = omega arith;
-      last-signal = omega arith;
-      last-flags = omega arith;
-    } in
-    subst⁻¹ (λ (n : ℕ). n ≤ 6) (entry r) (known a.line a.signal a.flags).1
+-- the verdict of one of the numbers is no refusal
+settled :
+    (n : ℕ) (r : Result Verdict Refusal) → Known n → Decodes n r →
+    answer_of r ≡ record { code = 0; verdict = n }
+settled n (Ok v) k is = rw is
+settled n (Err e) k is = absurd (grind (arith, nat_tests))
 
 pub returns : goal.returns
 unfolding judged table
@@ -82,5 +69,7 @@ returns c =
       last-signal = omega arith;
       last-flags = omega arith;
     } in
-    let number = c.verdict_of.ensures ∙ entry r in
-    rw (in-range r, number)
+    let told : Decodes (get_or table (place a.line a.signal a.flags) 0) c.try_from.result =
+    c.try_from.ensures in
+    let is = subst (λ (n : ℕ). Decodes n c.try_from.result) (entry r) told in
+    rw (in-range r) (settled _ c.try_from.result (known a.line a.signal a.flags) is)

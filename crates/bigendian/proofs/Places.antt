@@ -5,7 +5,7 @@ use mathlib.Core.Logic.{◌≢◌}
 use mathlib.Core.List.{List, [], ◌∷◌, ◌++◌, append-nil}
 use Prim.Native.Nat.{ℕ, zero, suc, ◌+◌, ◌-◌, ◌*◌, ◌/◌, ◌%◌, ◌^◌, ◌≤◌, ◌<◌}
 use native.Mathlib.Nat.{le_refl, le_of_eq, add-zero, zero-add, zero-mul, add_assoc, suc-add}
-use native.Mathlib.Nat.{add-suc}
+use native.Mathlib.Nat.{add-suc, mod-eq_of_lt}
 use native.Mathlib.Numerals.{add-one, one-add}
 use native.Mathlib.Omega.{arith}
 use lib.Dec.{lit<}
@@ -159,6 +159,12 @@ stored-number w s at byte = rw (bytes-number w s at byte) (sets-bytes_at w s at)
 pub number-next :
     (i : ℕ) (s : List ℕ) (at : ℕ) → number_at (i + 1) s at ≡ number_at i s at * 256 + byte_at s (at + i)
 number-next i s at = number-add i 1 s at ∙ omega arith
+
+-- the bytes are all passed: their number fits in them
+pub number_whole :
+    {i w : ℕ} (s : List ℕ) (at n : ℕ) → i ≡ w → n ≡ number_at i s at → n < 256 ^ i →
+    n % 256 ^ w ≡ number_at w s at
+number_whole s at n all found below = rw (← all) (mod-eq_of_lt below ∙ found)
 
 -- the top byte of those that are left is stored, then the rest
 pub stored-next :

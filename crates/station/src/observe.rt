@@ -5,7 +5,7 @@ ghost use Rattle.station.specs.declared.Turnout.{Turnout};
 
 use super::{TURNOUTS, Turnout, ZONES};
 
-// A test of a turnout by its record.
+// A test of a turnout by its record: a trait and no closure, since a public function asks nothing of its caller.
 pub trait TurnoutTest {
     ghost meets: { Self → Turnout → Bool };
 

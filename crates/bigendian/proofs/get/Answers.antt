@@ -1,8 +1,7 @@
-use Rattle.std.proofs.Common.{◌≡◌, ◌^◌, ◌<◌, ℕ, sym, ap, ◌∙◌, arith}
-use native.Mathlib.Nat.{mod-eq_of_lt, zero-mod}
-use Rattle.bigendian.specs.BigEndian.{number_at}
+use Rattle.std.proofs.Common.{◌≡◌, ◌^◌, ◌<◌, sym, ◌∙◌, arith}
+use native.Mathlib.Nat.{zero-mod}
 use Rattle.bigendian.proofs.Numbers.{next-lt, next_fits}
-use Rattle.bigendian.proofs.Places.{number-next, number_past}
+use Rattle.bigendian.proofs.Places.{number-next, number_past, number_whole}
 use Rattle.bigendian.proofs.get.Goals as goal
 
 pub overflow_mul-n : goal.overflow_mul-n
@@ -26,14 +25,11 @@ loop-i-preserved g c =
 
 pub returns : goal.returns
 returns g c =
-    let w = g.N.Number.BYTES in
     let s = c.args.s.now in
     let at = c.args.at in
-    let n = c.loop-i.n in
-    let all : c.loop-i.i ≡ w = omega arith in
-    let below : n < 256 ^ w = rw all at c.loop-i.invariant.1 in
-    let found : n ≡ number_at w s at = c.loop-i.invariant.0 ∙ ap (λ (i : ℕ). number_at i s at) all in
-    c.low-2.ensures ∙ mod-eq_of_lt below ∙ found ∙ sym (g.met.N.Number.reads s at)
+    let all : c.loop-i.i ≡ g.N.Number.BYTES = omega arith in
+    let read = number_whole s at c.loop-i.n all c.loop-i.invariant.0 c.loop-i.invariant.1 in
+    rw (c.low-2.ensures, g.met.N.Number.reads s at) read
 
 pub returns-then-s-at : goal.returns-then-s-at
 returns-then-s-at g c =

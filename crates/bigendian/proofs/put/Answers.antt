@@ -1,4 +1,4 @@
-use Rattle.std.proofs.Common.{◌≡◌, ◌<◌, ◌-◌, sym, arith}
+use Rattle.std.proofs.Common.{◌≡◌, ◌<◌, ◌-◌, sym, ◌∙◌, arith}
 use Rattle.bigendian.proofs.Places.{stored-next, stored_past}
 use Rattle.bigendian.proofs.put.Goals as goal
 
@@ -8,7 +8,7 @@ loop-i-preserved g c =
     let i = c.loop-i.i in
     let below : i < w = omega arith in
     let next = stored-next (c.BYTES.result - 1 - i) i w c.loop-i.s c.args.at c.wide-wide.result (omega arith) below in
-    rw (c.put_byte.ensures, next) c.loop-i.invariant
+    rw c.put_byte.ensures (next ∙ c.loop-i.invariant)
 
 pub returns : goal.returns
 returns g c =

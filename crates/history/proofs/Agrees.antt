@@ -14,17 +14,14 @@ use Rattle.station.specs.Station.{turnout_count, zone_of}
 use Rattle.zone.specs.declared.Work.{Work}
 use Rattle.zone.specs.declared.Work.TheVariants.{NoWork, Asked, Agreed}
 use Rattle.zone.specs.declared.Passage.{Passage}
-use Rattle.zone.specs.declared.Movement.{Movement}
-use Rattle.zone.specs.declared.Movement.TheVariants.{NoMovement, Standing}
+use Rattle.zone.specs.Movement.{Movement, cleared_set}
+use Rattle.std.specs.Prelude.{None, Some}
 use Rattle.zone.specs.Work.{work_set, agreed_set, open_set}
-use Rattle.zone.specs.Movement.{cleared_set}
 use Rattle.history.specs.Since.{Since, never, since, after_last, any}
 use Rattle.history.specs.History.{is, clears, ends, leaves, asking, agreement, asked_in}
-use Rattle.history.specs.History.{under_agreed_work, opened, open_to_work, standing, clears_well}
-use Rattle.history.specs.History.{key_for}
+use Rattle.history.specs.History.{under_agreed_work, opened, open_to_work, standing, clears_well, key_for}
 use Rattle.history.proofs.Append.{◌then◌, extend, any-kept}
-use Rattle.history.proofs.More.{asking-on, asked_in-on, agreement-on, under-on, open-on}
-use Rattle.history.proofs.More.{standing_on}
+use Rattle.history.proofs.More.{asking-on, asked_in-on, agreement-on, under-on, open-on, standing_on}
 
 -- a turnout of the station, in zone n
 pub record InZone (st : Station) (n t : ℕ) : Type 0 where
@@ -49,8 +46,8 @@ pub record Stands (st : Station) (H : List Message) (p : Passage) : Type 0 where
   pub keys : (t : ℕ) → any (key_for asked t) rest ≡ has p.keys t
 
 abbrev pub MovementAgrees : Station → List Message → Movement → Type 0
-MovementAgrees st H NoMovement = standing H ≡ never
-MovementAgrees st H (Standing p) = Stands st H p
+MovementAgrees st H None = standing H ≡ never
+MovementAgrees st H (Some p) = Stands st H p
 
 -- the work w of zone n, and what is open of it, after the accepted messages H
 pub record Works (st : Station) (n : ℕ) (H : List Message) (w : Work) : Type 0 where
@@ -176,9 +173,9 @@ stays m c = rw (c.eight, c.nine)
 pub movement-kept :
     (st : Station) (H : List Message) (m : Message) (v : Movement) → NotMovement m →
     MovementAgrees st H v → MovementAgrees st (H then m) v
-movement-kept st H m NoMovement c a =
+movement-kept st H m None c a =
     standing_on H m c.five (stays m c) ∙ ap (λ (s : Since). extend s m) a
-movement-kept st H m (Standing p) c a = record {
+movement-kept st H m (Some p) c a = record {
   asked = a.asked;
   rest = a.rest then m;
   stands = standing_on H m c.five (stays m c) ∙ ap (λ (s : Since). extend s m) a.stands;
@@ -194,7 +191,7 @@ pub no_member : (t : ℕ) → has 0 t ≡ true → ⊥
 no_member t e = true≢false (sym e ∙ has-zero t)
 
 -- a zone of which nothing was heard yet
-pub agrees-fresh : (st : Station) (n : ℕ) → Agrees st n [] NoWork NoMovement
+pub agrees-fresh : (st : Station) (n : ℕ) → Agrees st n [] NoWork None
 unfolding under_agreed_work open_to_work standing after_last
 agrees-fresh st n = record {
   works = record {

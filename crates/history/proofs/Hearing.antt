@@ -15,8 +15,7 @@ use Rattle.message.proofs.RoundTrips.{accepted-rules}
 use Rattle.station.specs.declared.Station.{Station}
 use Rattle.station.specs.Station.{zone_count}
 use Rattle.zone.specs.declared.Zone.{Zone}
-use Rattle.zone.specs.declared.Answer.{Answer}
-use Rattle.zone.specs.Zone.{refused_in}
+use Rattle.zone.specs.Zone.{Answer, refused_in}
 use Rattle.rules.specs.Kinds.{first, checks_of, answered, heard_on, heard, zone_after}
 use Rattle.desk.specs.declared.Desk.{Desk}
 use Rattle.desk.specs.Desk.{zone_at, refused_by, no_such_zone, reached, applied, applied_record}

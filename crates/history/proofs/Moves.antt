@@ -1,7 +1,6 @@
 -- One train's movement and the messages of that train: one more of them, kind by kind. Nothing here
 -- knows of other trains or of work.
-use mathlib.Core.Bool.{Bool, true, false, cond, not, ◌&&◌, ◌||◌, and-true, and-false}
-use mathlib.Core.Bool.{true≢false}
+use mathlib.Core.Bool.{Bool, true, false, cond, not, ◌&&◌, ◌||◌, and-true, and-false, true≢false}
 use mathlib.Core.List.{List, []}
 use mathlib.Core.Path.{◌≡◌, refl, sym, ap, ap₂, subst, ◌∙◌}
 use Prim.Native.Nat.{ℕ, ◌<◌}
@@ -14,19 +13,16 @@ use Rattle.station.specs.declared.Station.{Station}
 use Rattle.station.specs.declared.Route.{Route}
 use Rattle.station.specs.Station.{the_route}
 use Rattle.groups.specs.Groups.{grouped}
-use Rattle.zone.specs.declared.Movement.{Movement}
-use Rattle.zone.specs.declared.Movement.TheVariants.{NoMovement, Standing}
+use Rattle.zone.specs.Movement.{Movement, under_train, route_for, movement_for, cleared_at, keyed_at, ordered_as}
+use Rattle.std.specs.Prelude.{None, Some}
 use Rattle.zone.specs.declared.Passage.{Passage}
-use Rattle.zone.specs.Movement.{under_train, route_for, movement_for, cleared_at, keyed_at, ordered_as}
 use Rattle.rules.specs.Clearance.{is_efficient, clearance_fits}
 use Rattle.rules.proofs.Fits.{fits-position, fits-group, covers-group}
 use Rattle.history.specs.Since.{Since, since, any}
-use Rattle.history.specs.History.{is, clears, leaves, standing, all_efficient, clears_well}
-use Rattle.history.specs.History.{key_for}
+use Rattle.history.specs.History.{is, clears, leaves, standing, all_efficient, clears_well, key_for}
 use Rattle.history.proofs.Append.{◌then◌, extend, any-more, any-kept}
 use Rattle.history.proofs.More.{standing-asked, standing-left, standing_on}
-use Rattle.history.proofs.Agrees.{Stands, MovementAgrees, is-kind, not-movement}
-use Rattle.history.proofs.Agrees.{movement-kept}
+use Rattle.history.proofs.Agrees.{Stands, MovementAgrees, is-kind, not-movement, movement-kept}
 
 eqb-sym : (x y : ℕ) → eqb x y ≡ eqb y x
 eqb-sym x y = go (eqb x y) refl
@@ -73,7 +69,7 @@ module _ (st : Station) (L : List Message) (m : Message) where
   }
 
   -- 8, 9
-  pub left-agrees : is 5 m ≡ false → leaves m ≡ true → MovementAgrees st (L then m) NoMovement
+  pub left-agrees : is 5 m ≡ false → leaves m ≡ true → MovementAgrees st (L then m) None
   left-agrees five away = standing-left L m five away
 
   -- 7
@@ -85,8 +81,8 @@ module _ (st : Station) (L : List Message) (m : Message) where
       ordered :
           (v : Movement) → MovementAgrees st (L then m) v →
           MovementAgrees st (L then m) (ordered_as v m.d0)
-      ordered NoMovement a = a
-      ordered (Standing p) a = record {
+      ordered None a = a
+      ordered (Some p) a = record {
         asked = a.asked;
         rest = a.rest;
         stands = a.stands;
@@ -106,7 +102,7 @@ module _ (st : Station) (L : List Message) (m : Message) where
       ∙ ap (λ (x : Since). extend x m) a.stands
 
   of-its-train :
-      {p : Passage} (a : Stands st L p) → under_train (Standing p) m.id ≡ true →
+      {p : Passage} (a : Stands st L p) → under_train (Some p) m.id ≡ true →
       m.id ≡ a.asked.id
   of-its-train {p = p} a train = sym (a.train ∙ eqb-true p.train m.id train)
 
@@ -114,8 +110,8 @@ module _ (st : Station) (L : List Message) (m : Message) where
   pub keyed-agrees :
       (v : Movement) → m.kind ≡ 13 → m.d0 < 64 → under_train v m.id ≡ true
       → MovementAgrees st L v → MovementAgrees st (L then m) (keyed_at v m.d0)
-  keyed-agrees NoMovement e below train a = absurd (true≢false (sym train))
-  keyed-agrees (Standing p) e below train a = record {
+  keyed-agrees None e below train a = absurd (true≢false (sym train))
+  keyed-agrees (Some p) e below train a = record {
     asked = a.asked;
     rest = a.rest then m;
     stands = still-stands 13 e refl refl a;
@@ -141,8 +137,8 @@ module _ (st : Station) (L : List Message) (m : Message) where
       not (clearance_fits st (route_for st v) m) ≡ false
       → MovementAgrees st L v
       → MovementAgrees st (L then m) (cleared_at v m.d0 (is_efficient m.d1))
-  cleared-agrees NoMovement e below train fits a = absurd (true≢false (sym train))
-  cleared-agrees (Standing p) e below train fits a = record {
+  cleared-agrees None e below train fits a = absurd (true≢false (sym train))
+  cleared-agrees (Some p) e below train fits a = record {
     asked = a.asked;
     rest = a.rest then m;
     stands = still-stands 6 e refl refl a;

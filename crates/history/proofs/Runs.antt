@@ -16,7 +16,7 @@ use Rattle.station.specs.declared.Station.{Station}
 use Rattle.station.specs.Station.{zone_count}
 use Rattle.zone.specs.declared.Zone.{Zone}
 use Rattle.zone.specs.declared.Work.TheVariants.{NoWork}
-use Rattle.zone.specs.declared.Movement.TheVariants.{NoMovement}
+use Rattle.std.specs.Prelude.{None}
 use Rattle.zone.specs.Zone.{fresh_zone, no_zone}
 use Rattle.rules.specs.Kinds.{zone_after}
 use Rattle.desk.specs.declared.Desk.{Desk}
@@ -146,7 +146,7 @@ module _ (st : Station) where
       none :
           (k n : ℕ) →
           ((get_or (replicate k fresh_zone) n no_zone).work ≡ NoWork)
-          × ((get_or (replicate k fresh_zone) n no_zone).movement ≡ NoMovement)
+          × ((get_or (replicate k fresh_zone) n no_zone).movement ≡ None)
       none zero n = (refl, refl)
       none (suc k) zero = (refl, refl)
       none (suc k) (suc n) = none k n

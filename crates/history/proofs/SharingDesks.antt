@@ -4,8 +4,7 @@ use mathlib.Core.List.{List, [], ◌∷◌}
 use mathlib.Core.Path.{◌≡◌, sym, ap, ◌∙◌}
 use Prim.Native.Nat.{ℕ}
 use native.Mathlib.Omega.{arith}
-use Rattle.desk.specs.declared.MovementAnswer.{MovementAnswer}
-use Rattle.desk.specs.declared.WorkAnswer.{WorkAnswer}
+use Rattle.desk.specs.Questions.{MovementAnswer, WorkAnswer}
 use Rattle.history.specs.Lists.{Reply}
 use Rattle.history.specs.Separation.{Separation}
 use Rattle.history.specs.SharingDesks.{common_clock, common_recorder, common_agreement}

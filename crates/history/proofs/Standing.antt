@@ -1,7 +1,6 @@
 -- A standing movement and the work of its zone: what is cleared, what has neither a clearance nor a
 -- key, and whether the signals are clear, by the state and by the history.
-use mathlib.Core.Bool.{Bool, true, false, cond, not, ◌&&◌, ◌||◌, or-true, and-eq-true_iff}
-use mathlib.Core.Bool.{true≢false}
+use mathlib.Core.Bool.{Bool, true, false, cond, not, ◌&&◌, ◌||◌, or-true, and-eq-true_iff, true≢false}
 use mathlib.Core.List.{List, [], ◌∷◌}
 use mathlib.Core.Logic.{◌↔◌}
 use mathlib.Core.Path.{◌≡◌, refl, sym, ap, ap₂, subst₂, ◌∙◌}
@@ -16,18 +15,15 @@ use Rattle.message.specs.declared.Message.{Message}
 use Rattle.station.specs.declared.Station.{Station}
 use Rattle.station.specs.Station.{the_route, named_by}
 use Rattle.zone.specs.declared.Work.{Work}
-use Rattle.zone.specs.declared.Movement.{Movement}
-use Rattle.zone.specs.declared.Movement.TheVariants.{NoMovement, Standing}
+use Rattle.zone.specs.Movement.{Movement, cleared_set, efficient_set, key_set, lack_nothing, allow_clear}
+use Rattle.std.specs.Prelude.{None, Some}
 use Rattle.zone.specs.declared.Passage.{Passage}
 use Rattle.zone.specs.declared.Regime.TheVariants.{Held, Clear, Danger}
 use Rattle.zone.specs.Work.{agreed_set}
-use Rattle.zone.specs.Movement.{cleared_set, efficient_set, key_set, lack_nothing, allow_clear}
-use Rattle.zone.specs.Movement.{route_for, worked_turnouts, lacking}
-use Rattle.zone.specs.Movement.{regime_on, regime_of, is_clear, under_train}
+use Rattle.zone.specs.Movement.{route_for, worked_turnouts, lacking, regime_on, regime_of, is_clear, under_train}
 use Rattle.history.specs.Since.{never, since, any}
 use Rattle.history.specs.History.{clears, clears_well, under_agreed_work, standing, cleared}
-use Rattle.history.specs.History.{of_its_route, all_efficient, key_for, allows_clear}
-use Rattle.history.specs.History.{EachWorkedAllowsClear, lacks}
+use Rattle.history.specs.History.{of_its_route, all_efficient, key_for, allows_clear, EachWorkedAllowsClear, lacks}
 use Rattle.history.proofs.Agrees.{WorkAgrees, Stands, MovementAgrees, under-is}
 
 -- what is cleared, by the state and by the history
@@ -35,8 +31,8 @@ pub cleared-is :
     (st : Station) (H : List Message) (v : Movement) → MovementAgrees st H v → (t : ℕ) →
     cleared t H ≡ has (cleared_set v) t
 unfolding cleared
-cleared-is st H NoMovement a t = rw a (sym (has-zero t))
-cleared-is st H (Standing p) a t = rw a.stands (a.cleared t)
+cleared-is st H None a t = rw a (sym (has-zero t))
+cleared-is st H (Some p) a t = rw a.stands (a.cleared t)
 
 any-weaker :
     (p q : Message → Bool) → ((m : Message) → p m ≡ true → q m ≡ true) → (l : List Message) →
@@ -87,7 +83,7 @@ module _ (st : Station) (H L : List Message) (w : Work) (p : Passage)
   -- a worked turnout, by the state and by the history
   worked-is :
       (t : ℕ) →
-      has (worked_turnouts (route_for st (Standing p)) w) t
+      has (worked_turnouts (route_for st (Some p)) w) t
       ≡ (of_its_route st a.asked t && under_agreed_work t H)
   worked-is t =
       has-and (named_by (the_route st p.route)) (agreed_set w) t
@@ -97,40 +93,40 @@ module _ (st : Station) (H L : List Message) (w : Work) (p : Passage)
   nothing-lacks-is :
       (t : ℕ) →
       (any (clears t) a.rest || any (key_for a.asked t) a.rest)
-      ≡ has (lack_nothing (Standing p)) t
+      ≡ has (lack_nothing (Some p)) t
   nothing-lacks-is t =
       ap₂ (λ (o b : Bool). o || b) (a.cleared t) (a.keys t)
       ∙ sym (has-or p.cleared p.keys t)
 
   -- a turnout with a good clearance or a key
-  allows-is : (t : ℕ) → allows_clear st a.asked a.rest t ≡ has (allow_clear (Standing p)) t
+  allows-is : (t : ℕ) → allows_clear st a.asked a.rest t ≡ has (allow_clear (Some p)) t
   allows-is t =
       ap₂ (λ (o b : Bool). o || b) (a.efficient t) (a.keys t)
       ∙ sym (has-or p.efficient p.keys t)
 
   -- a turnout with neither
-  lacking-is : (t : ℕ) → lacks st H a.asked a.rest t ≡ has (lacking st w (Standing p)) t
+  lacking-is : (t : ℕ) → lacks st H a.asked a.rest t ≡ has (lacking st w (Some p)) t
   lacking-is t =
-      sym (has-without (worked_turnouts (route_for st (Standing p)) w) (lack_nothing (Standing p)) t
+      sym (has-without (worked_turnouts (route_for st (Some p)) w) (lack_nothing (Some p)) t
       ∙ rw (worked-is t, nothing-lacks-is t))
 
-  clear-then : regime_of st w (Standing p) ≡ Clear → EachWorkedAllowsClear st H a.asked a.rest
+  clear-then : regime_of st w (Some p) ≡ Clear → EachWorkedAllowsClear st H a.asked a.rest
   clear-then clear t named under =
-      let good = clear-means st w (Standing p) clear in
-      let worked = worked_turnouts (route_for st (Standing p)) w in
+      let good = clear-means st w (Some p) clear in
+      let worked = worked_turnouts (route_for st (Some p)) w in
       let under-work : has worked t ≡ true = worked-is t ∙ rw (named, under) in
-      allows-is t ∙ within-member worked (allow_clear (Standing p)) t good under-work
+      allows-is t ∙ within-member worked (allow_clear (Some p)) t good under-work
 
-  then-clear : EachWorkedAllowsClear st H a.asked a.rest → regime_of st w (Standing p) ≡ Clear
+  then-clear : EachWorkedAllowsClear st H a.asked a.rest → regime_of st w (Some p) ≡ Clear
   unfolding regime_on
   then-clear each =
       rw (
-        empty-all (lacking st w (Standing p)) none,
-        within_all (worked_turnouts (route_for st (Standing p)) w) (allow_clear (Standing p)) good,
+        empty-all (lacking st w (Some p)) none,
+        within_all (worked_turnouts (route_for st (Some p)) w) (allow_clear (Some p)) good,
       )
     where
       allowed :
-          (t : ℕ) → has (worked_turnouts (route_for st (Standing p)) w) t ≡ true →
+          (t : ℕ) → has (worked_turnouts (route_for st (Some p)) w) t ≡ true →
           allows_clear st a.asked a.rest t ≡ true
       allowed t h =
           let worked = sym (worked-is t) ∙ h in
@@ -138,13 +134,13 @@ module _ (st : Station) (H L : List Message) (w : Work) (p : Passage)
           each t both.0 both.1
 
       good :
-          (t : ℕ) → has (worked_turnouts (route_for st (Standing p)) w) t ≡ true →
-          has (allow_clear (Standing p)) t ≡ true
+          (t : ℕ) → has (worked_turnouts (route_for st (Some p)) w) t ≡ true →
+          has (allow_clear (Some p)) t ≡ true
       good t h = sym (allows-is t) ∙ allowed t h
 
       go :
-          (t : ℕ) (b : Bool) → has (worked_turnouts (route_for st (Standing p)) w) t ≡ b →
-          (b && not (has (lack_nothing (Standing p)) t)) ≡ false
+          (t : ℕ) (b : Bool) → has (worked_turnouts (route_for st (Some p)) w) t ≡ b →
+          (b && not (has (lack_nothing (Some p)) t)) ≡ false
       go t true h =
           let well = clears_well st a.asked t in
           let key = any (key_for a.asked t) a.rest in
@@ -154,10 +150,10 @@ module _ (st : Station) (H L : List Message) (w : Work) (p : Passage)
           rw (sym (nothing-lacks-is t) ∙ nothing-lacks)
       go t false h = refl
 
-      none : (t : ℕ) → has (lacking st w (Standing p)) t ≡ false
+      none : (t : ℕ) → has (lacking st w (Some p)) t ≡ false
       none t =
-          has-without (worked_turnouts (route_for st (Standing p)) w) (lack_nothing (Standing p)) t
-          ∙ rw (go t (has (worked_turnouts (route_for st (Standing p)) w) t) refl)
+          has-without (worked_turnouts (route_for st (Some p)) w) (lack_nothing (Some p)) t
+          ∙ rw (go t (has (worked_turnouts (route_for st (Some p)) w) t) refl)
 
 -- the movement asked by f, which stands by the messages L of its train: what the desk says of it
 pub record Told (st : Station) (H : List Message) (w : Work) (v : Movement)
@@ -172,14 +168,14 @@ pub told :
     (st : Station) (H L : List Message) (w : Work) (v : Movement)
     (f : Message) (rest : List Message)
     → WorkAgrees H w → MovementAgrees st L v → standing L ≡ since f rest → Told st H w v f rest
-told st H L w NoMovement f rest work a stands =
+told st H L w None f rest work a stands =
     let z : ◌≡◌ {A = ℕ} 0 1 = cc in
     absurd (omega arith)
-told st H L w (Standing p) f rest work a stands =
+told st H L w (Some p) f rest work a stands =
     let same : since a.asked a.rest ≡ since f rest = sym a.stands ∙ stands in
     let first : a.asked ≡ f = cc in
     let later : a.rest ≡ rest = cc in
-    subst₂ (λ (g : Message) (l : List Message). Told st H w (Standing p) g l) first later
+    subst₂ (λ (g : Message) (l : List Message). Told st H w (Some p) g l) first later
     (record {
       under = eq-eqb p.train a.asked.id (sym a.train);
       clear = (clear-then st H L w p work a, then-clear st H L w p work a);
@@ -192,8 +188,8 @@ told st H L w (Standing p) f rest work a stands =
 pub none-under :
     (st : Station) (L : List Message) (v : Movement) (train : ℕ) → MovementAgrees st L v →
     standing L ≡ never → under_train v train ≡ false
-none-under st L NoMovement train a none = refl
-none-under st L (Standing p) train a none =
+none-under st L None train a none = refl
+none-under st L (Some p) train a none =
     let z : never ≡ since a.asked a.rest = sym none ∙ a.stands in
     let impossible : ◌≡◌ {A = ℕ} 0 1 = cc in
     absurd (omega arith)

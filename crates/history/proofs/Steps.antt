@@ -11,22 +11,19 @@ use Rattle.message.specs.declared.Message.{Message}
 use Rattle.station.specs.declared.Station.{Station}
 use Rattle.zone.specs.declared.Work.{Work}
 use Rattle.zone.specs.declared.Work.TheVariants.{NoWork, Asked, Agreed}
-use Rattle.zone.specs.declared.Movement.{Movement}
-use Rattle.zone.specs.declared.Movement.TheVariants.{NoMovement, Standing}
+use Rattle.zone.specs.Movement.{Movement, under_train, cleared_set, named_turnouts, worked_turnouts, route_for}
+use Rattle.std.specs.Prelude.{None, Some}
 use Rattle.zone.specs.Work.{has_work, is_agreed, under_form, work_set, agreed_set, open_set, asked_for}
 use Rattle.zone.specs.Work.{agreed_from, opened_to, shut_to, restored_of}
-use Rattle.zone.specs.Movement.{under_train, cleared_set, named_turnouts, worked_turnouts, route_for}
 use Rattle.zone.specs.Movement.{movement_for, cleared_at, keyed_at, ordered_as}
 use Rattle.rules.specs.Clearance.{is_efficient, clearance_fits}
 use Rattle.rules.specs.Tests.{bad_request, bad_detection}
 use Rattle.history.proofs.Append.{◌then◌}
 use Rattle.history.proofs.Works as works
 use Rattle.history.proofs.Works.{shut_open, agreed-in, left_in}
-use Rattle.history.proofs.Moves.{alone, asked-agrees, left-agrees, ordered-agrees}
-use Rattle.history.proofs.Moves.{cleared-agrees, keyed-agrees}
+use Rattle.history.proofs.Moves.{alone, asked-agrees, left-agrees, ordered-agrees, cleared-agrees, keyed-agrees}
 use Rattle.history.proofs.Agrees.{InZone, MovementAgrees, Works, Agrees, is-kind, NotWork}
-use Rattle.history.proofs.Agrees.{not-work, NotMovement, not-movement, movement-kept}
-use Rattle.history.proofs.Agrees.{no_member}
+use Rattle.history.proofs.Agrees.{not-work, NotMovement, not-movement, movement-kept, no_member}
 
 -- what is open after a kind of work was open, or is opened by it
 unopened :
@@ -52,21 +49,21 @@ opened-fewer (Agreed g) s t h = left_in s g.opened t h
 cleared_more :
     (v : Movement) (n : ℕ) (b : Bool) (t : ℕ) → has (cleared_set (cleared_at v n b)) t ≡ true →
     (has (cleared_set v) t || has (single n) t) ≡ true
-cleared_more NoMovement n b t h = absurd (no_member t h)
-cleared_more (Standing p) n b t h = sym (has-or p.cleared (single n) t) ∙ h
+cleared_more None n b t h = absurd (no_member t h)
+cleared_more (Some p) n b t h = sym (has-or p.cleared (single n) t) ∙ h
 
 same-cleared :
     (t : ℕ) (v : Movement) (order : ℕ) → has (cleared_set (ordered_as v order)) t ≡ true →
     has (cleared_set v) t ≡ true
-same-cleared t NoMovement order h = h
-same-cleared t (Standing p) order h = h
+same-cleared t None order h = h
+same-cleared t (Some p) order h = h
 
 -- a key clears nothing
 keyed-cleared :
     (t : ℕ) (v : Movement) (n : ℕ) → has (cleared_set (keyed_at v n)) t ≡ true →
     has (cleared_set v) t ≡ true
-keyed-cleared t NoMovement n h = h
-keyed-cleared t (Standing p) n h = h
+keyed-cleared t None n h = h
+keyed-cleared t (Some p) n h = h
 
 module _ (st : Station) (n : ℕ) (H : List Message) (m : Message) where
   -- a message of work: the movement stays, and what is open now is not cleared for it
@@ -187,20 +184,20 @@ module _ (st : Station) (n : ℕ) (H : List Message) (m : Message) where
 
   pub step8 :
       (w : Work) (v : Movement) → m.kind ≡ 8 → Agrees st n H w v →
-      Agrees st n (H then m) w NoMovement
+      Agrees st n (H then m) w None
   step8 w v e =
       let calm = not-work m 8 e refl in
       let left = left-agrees st H m (is-kind m 8 5 e) (rw (is-kind m 8 8 e)) in
-      at-movement w NoMovement calm left (λ t h. absurd (no_member t h))
+      at-movement w None calm left (λ t h. absurd (no_member t h))
 
   pub step9 :
       (w : Work) (v : Movement) → m.kind ≡ 9 → Agrees st n H w v →
-      Agrees st n (H then m) w NoMovement
+      Agrees st n (H then m) w None
   step9 w v e =
       let calm = not-work m 9 e refl in
       let left =
       left-agrees st H m (is-kind m 9 5 e) (rw (is-kind m 9 8 e, is-kind m 9 9 e)) in
-      at-movement w NoMovement calm left (λ t h. absurd (no_member t h))
+      at-movement w None calm left (λ t h. absurd (no_member t h))
 
   pub step6 : (w : Work) (v : Movement) → m.kind ≡ 6 → m.d0 < 64 → under_train v m.id ≡ true
       → not (has (worked_turnouts (route_for st v) w) m.d0) ≡ false

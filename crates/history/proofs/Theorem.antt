@@ -14,10 +14,9 @@ use Rattle.station.specs.declared.Station.{Station}
 use Rattle.station.specs.Station.{turnout_count, zone_count, zone_of}
 use Rattle.sheet.specs.Sheet.{read_sheet}
 use Rattle.zone.specs.declared.Work.{Work}
-use Rattle.zone.specs.declared.Movement.{Movement}
+use Rattle.zone.specs.Movement.{Movement, is_standing, train_of}
 use Rattle.zone.specs.declared.Regime.TheVariants.{Clear}
 use Rattle.zone.specs.Work.{open_set}
-use Rattle.zone.specs.Movement.{is_standing, train_of}
 use Rattle.zone.proofs.EachTrain.{found}
 use Rattle.desk.specs.declared.Desk.{Desk}
 use Rattle.desk.specs.Desk.{fresh_desk, zone_at}

@@ -2,7 +2,7 @@
 use Rattle.std.specs.Prelude.{ℕ}
 use Rattle.message.specs.declared.Message.{Message}
 use Rattle.zone.specs.declared.Regime.{Regime}
-use Rattle.desk.specs.declared.MovementAnswer.{MovementAnswer}
+use Rattle.desk.specs.Questions.{MovementAnswer}
 use Rattle.history.specs.Lists.{Reply}
 
 -- a message of zone 0 that names no set and no detail

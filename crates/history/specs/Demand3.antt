@@ -6,11 +6,8 @@ use Rattle.station.specs.declared.Station.{Station}
 use Rattle.sheet.specs.Sheet.{read_sheet}
 use Rattle.zone.specs.declared.Regime.TheVariants.{Clear}
 use Rattle.desk.specs.declared.Desk.{Desk}
-use Rattle.desk.specs.declared.Applied.{Applied}
-use Rattle.desk.specs.declared.MovementAnswer.{MovementAnswer}
-use Rattle.desk.specs.declared.WorkAnswer.{WorkAnswer}
-use Rattle.desk.specs.Desk.{fresh_desk, applied, applied_record}
-use Rattle.desk.specs.Questions.{movement_answered, work_answered}
+use Rattle.desk.specs.Desk.{Applied, fresh_desk, applied, applied_record}
+use Rattle.desk.specs.Questions.{MovementAnswer, WorkAnswer, movement_answered, work_answered}
 use Rattle.history.specs.Since.{since}
 use Rattle.history.specs.History.{open_to_work, standing, cleared, EachWorkedAllowsClear}
 use Rattle.history.specs.Lists.{Input, message, bytes, Heard, Model, answers, kept}

@@ -12,19 +12,16 @@ use Rattle.station.specs.declared.Station.{Station}
 use Rattle.zone.specs.declared.Regime.TheVariants.{Clear}
 use Rattle.zone.specs.Movement.{is_clear}
 use Rattle.desk.specs.declared.Desk.{Desk}
-use Rattle.desk.specs.declared.MovementAnswer.{MovementAnswer}
-use Rattle.desk.specs.declared.WorkAnswer.{WorkAnswer}
+use Rattle.desk.specs.Questions.{MovementAnswer, WorkAnswer}
 use Rattle.history.specs.Since.{since, after_last, after_first, any, any_then_none}
 use Rattle.history.specs.History.{under_agreed_work, open_to_work, standing, allows_clear}
-use Rattle.history.specs.Lists.{Input, Model, message, after, accepted, of_zone, desk_after}
-use Rattle.history.specs.Lists.{zone_messages}
+use Rattle.history.specs.Lists.{Input, Model, message, after, accepted, of_zone, desk_after, zone_messages}
 use Rattle.history.specs.Demand3.{ours, Demand3}
 use Rattle.history.specs.CaseMessages.{keying}
 use Rattle.history.specs.Cases.{asked, keyed2}
 use Rattle.sheet.specs.Cases.{sheet_k}
 use Rattle.worked_cases.specs.StationK.{station_k, records_k, cleared0, one_end_cleared}
-use Rattle.worked_cases.specs.StationK.{one_end_heard, keyed_heard, next_asked, next_train}
-use Rattle.worked_cases.specs.StationK.{next_heard}
+use Rattle.worked_cases.specs.StationK.{one_end_heard, keyed_heard, next_asked, next_train, next_heard}
 use Rattle.worked_cases.specs.OtherDesks.{answering_movements, keeping_nothing, stays_fresh}
 use Rattle.worked_cases.specs.OtherDesks.{takes_for_both, keeps_no_keys, keys_outlive}
 use Rattle.worked_cases.proofs.StationK.{station-k}

@@ -3,19 +3,15 @@
 -- And those that are turned down since the requests: M-101 (FIT-4), one that takes a clearance for
 -- one end of a crossover as one for both; M-105 (KIND-13.5, KIND-8.3), one that accepts a key and still lacks the
 -- turnout, and one whose keys outlive the train.
-use Rattle.std.specs.Prelude.{cond, ◌&&◌, ℕ, eqb, set}
+use Rattle.std.specs.Prelude.{cond, ◌&&◌, ℕ, eqb, set, None, Some}
 use Rattle.sets.specs.Sets.{union}
 use Rattle.message.specs.declared.Message.{Message}
 use Rattle.station.specs.declared.Station.{Station}
-use Rattle.zone.specs.declared.Movement.{Movement}
-use Rattle.zone.specs.declared.Movement.TheVariants.{NoMovement, Standing}
+use Rattle.zone.specs.Movement.{Movement, key_set}
 use Rattle.zone.specs.declared.Zone.{Zone}
-use Rattle.zone.specs.Movement.{key_set}
 use Rattle.desk.specs.declared.Desk.{Desk}
-use Rattle.desk.specs.declared.MovementAnswer.{MovementAnswer}
-use Rattle.desk.specs.declared.WorkAnswer.{WorkAnswer}
+use Rattle.desk.specs.Questions.{MovementAnswer, WorkAnswer, movement_answered, work_answered}
 use Rattle.desk.specs.Desk.{fresh_desk, zone_at}
-use Rattle.desk.specs.Questions.{movement_answered, work_answered}
 use Rattle.history.specs.Lists.{Input, message, bytes, Heard, Model}
 use Rattle.history.specs.Demand3.{hears, on_desks}
 
@@ -77,8 +73,8 @@ pub record WithKeys : Type 0 where
 
 -- a movement with further keys
 abbrev pub also_keyed : Movement → ℕ → Movement
-also_keyed NoMovement keys = NoMovement
-also_keyed (Standing p) keys = Standing (record {
+also_keyed None keys = None
+also_keyed (Some p) keys = Some (record {
   train = p.train;
   route = p.route;
   order = p.order;

@@ -8,10 +8,8 @@ use Rattle.station.specs.declared.Station.{Station}
 use Rattle.sheet.specs.Cases.{sheet_k}
 use Rattle.sheet.specs.Sheet.{read_sheet}
 use Rattle.desk.specs.Desk.{fresh_desk}
-use Rattle.desk.specs.declared.MovementAnswer.{MovementAnswer}
-use Rattle.desk.specs.Questions.{movement_answered, work_answered}
-use Rattle.history.specs.Lists.{Input, message, bytes, Reply, after, answers, desk_after}
-use Rattle.history.specs.Lists.{zone_messages}
+use Rattle.desk.specs.Questions.{MovementAnswer, movement_answered, work_answered}
+use Rattle.history.specs.Lists.{Input, message, bytes, Reply, after, answers, desk_after, zone_messages}
 use Rattle.history.specs.Demand3.{ours}
 use Rattle.history.specs.CaseMessages.{plain, naming, clearing, declaring, reply}
 use Rattle.history.specs.Cases.{asked, keyed2}

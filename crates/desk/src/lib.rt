@@ -130,7 +130,10 @@ pub fn apply(st: Station, d: Desk, m: Message) -> Result<After, Refusal>
 pub fn apply_record(st: Station, d: Desk, s: &[u8]) -> Result<After, Refusal>
     ensures { applied_of d result ≡ applied_record st d s.now }
 {
-    let m = message::read_record(s)?;
+    let reading = message::read_record(s);
+    let Ok(m) = reading else {
+        return Err(reading.unwrap_err());
+    };
     reach(st, d, m)
 }
 

@@ -12,13 +12,14 @@ use Rattle.zone.specs.Zone.{refused_in}
 use Rattle.rules.specs.declared.Concerned.{Concerned}
 use Rattle.rules.specs.Kinds.{row, rows, no_kind, answered}
 
-row-of-none : (k : ℕ) → is_kind k ≡ false → row k ≡ no_kind
+-- its row is the one that refuses it
+pub no_kind_lem : (k : ℕ) → is_kind k ≡ false → row k ≡ no_kind
 unfolding row
-row-of-none =
+no_kind_lem =
     no-kind (λ k. row k ≡ no_kind) refl (λ k past. get_or-eq_default rows no_kind past)
 
 pub answered_none :
     (k : ℕ) (st : Station) (routes : Concerned) (z : Zone) (m : Message) → is_kind k ≡ false
     → answered k st routes z m ≡ refused_in z 11
 unfolding answered
-answered_none k st routes z m none = rw (row-of-none k none)
+answered_none k st routes z m none = rw (no_kind_lem k none)

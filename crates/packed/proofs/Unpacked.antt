@@ -9,9 +9,9 @@ use Rattle.packing.specs.Bytes.{above, byte_of}
 use Rattle.packing.proofs.Bytes as packing
 use Rattle.zone.specs.declared.Regime.{Regime}
 use Rattle.zone.specs.declared.Regime.TheVariants.{Held, Clear, Danger}
-use Rattle.desk.specs.declared.MovementAnswer.{MovementAnswer}
-use Rattle.desk.specs.declared.WorkAnswer.{WorkAnswer}
-use Rattle.packed.specs.Packed.{regime_number, movement_packed}
+use Rattle.zone.specs.Movement.{regime_number}
+use Rattle.desk.specs.Questions.{MovementAnswer, WorkAnswer}
+use Rattle.packed.specs.Packed.{movement_packed}
 use Rattle.packed.specs.Unpacked.{AnswerBytes, MovementBytes, WorkBytes}
 
 pub answer-bytes : (code minutes : ℕ) → code < 256 → AnswerBytes code minutes

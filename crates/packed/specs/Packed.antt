@@ -1,20 +1,12 @@
 -- Answers of several values as one number: the code in its lowest byte, and the other values above
 -- it.
 use Rattle.std.specs.Prelude.{cond, ℕ, ◌+◌, ◌*◌}
-use Rattle.zone.specs.declared.Regime.{Regime}
-use Rattle.zone.specs.declared.Regime.TheVariants.{Held, Clear, Danger}
-use Rattle.desk.specs.declared.MovementAnswer.{MovementAnswer}
-use Rattle.desk.specs.declared.WorkAnswer.{WorkAnswer}
+use Rattle.zone.specs.Movement.{regime_number}
+use Rattle.desk.specs.Questions.{MovementAnswer, WorkAnswer}
 
 -- the answer to a record: the code, the minutes above it
 abbrev pub answer_packed : ℕ → ℕ → ℕ
 answer_packed code minutes = code + 256 * minutes
-
--- held, clear, danger
-abbrev pub regime_number : Regime → ℕ
-regime_number Held = 0
-regime_number Clear = 1
-regime_number Danger = 2
 
 -- the movement question: the code, the regime, the lowest turnout, the count, a byte each
 abbrev pub movement_packed : MovementAnswer → ℕ

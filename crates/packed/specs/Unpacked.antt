@@ -1,9 +1,9 @@
 -- Packed answers taken apart: where each value stands in the number.
 use Rattle.std.specs.Prelude.{cond, ◌≡◌, ℕ}
 use Rattle.packing.specs.Bytes.{above, byte_of}
-use Rattle.desk.specs.declared.MovementAnswer.{MovementAnswer}
-use Rattle.desk.specs.declared.WorkAnswer.{WorkAnswer}
-use Rattle.packed.specs.Packed.{answer_packed, regime_number, movement_packed, work_packed}
+use Rattle.zone.specs.Movement.{regime_number}
+use Rattle.desk.specs.Questions.{MovementAnswer, WorkAnswer}
+use Rattle.packed.specs.Packed.{answer_packed, movement_packed, work_packed}
 
 -- the answer to a record: byte 0 is the code, what stands above it the minutes
 pub record AnswerBytes (code minutes : ℕ) : Type 0 where

@@ -3,47 +3,43 @@
 #![tactic(auto)]
 
 ghost use Rattle.std.specs.Prelude.{◌≡◌};
-ghost use Rattle.packed.specs.Packed.{answer_packed, regime_number, movement_packed, work_packed};
+ghost use Rattle.desk.specs.Questions.{movement_answer_of, work_answer_of};
+ghost use Rattle.packed.specs.Packed.{answer_packed, movement_packed, work_packed};
 
-use desk::{MovementAnswer, WorkAnswer};
-use zone::Regime;
+use desk::MovementState;
+use refusals::Refusal;
+
+// What stands for the lowest turnout where none lacks a clearance (ASK-1).
+const NO_TURNOUT: u32 = 255;
 
 // The answer to a record: the code in the lowest byte, the minutes above it.
 pub fn answer_packed(code: u8, minutes: u32) -> u64
     ensures { result ≡ answer_packed code minutes }
 {
-    (code as u64) + 256 * (minutes as u64)
-}
-
-// The number of a regime: 0 held, 1 clear, 2 danger.
-fn regime_number(regime: Regime) -> u8
-    ensures { result ≡ regime_number regime }
-{
-    match regime {
-        Regime::Held => 0,
-        Regime::Clear => 1,
-        Regime::Danger => 2,
-    }
+    u64::from(code) + 256 * u64::from(minutes)
 }
 
 // The movement question's answer: the code, the regime, the lowest turnout lacking a clearance, how many lack one, a
 // byte each.
-pub fn movement_packed(a: MovementAnswer) -> u64
-    ensures { result ≡ movement_packed a }
+pub fn movement_packed(answer: Result<MovementState, Refusal>) -> u64
+    ensures { result ≡ movement_packed (movement_answer_of answer) }
 {
-    let regime = a.regime;
-    (a.code as u64)
-        + 256 * (regime_number(regime) as u64)
-        + 65536 * (a.lowest as u64)
-        + 16777216 * (a.count as u64)
+    match answer {
+        Ok(state) => {
+            256 * u64::from(u8::from(state.regime))
+                + 65536 * u64::from(state.lowest.unwrap_or(NO_TURNOUT))
+                + 16777216 * u64::from(state.count)
+        }
+        Err(refusal) => u64::from(u8::from(refusal)) + 65536 * u64::from(NO_TURNOUT),
+    }
 }
 
 // The work question's answer: the code, and 256 if the turnout is open to work.
-pub fn work_packed(a: WorkAnswer) -> u32
-    ensures { result ≡ work_packed a }
+pub fn work_packed(answer: Result<bool, Refusal>) -> u32
+    ensures { result ≡ work_packed (work_answer_of answer) }
 {
-    if a.yes {
-        return (a.code as u32) + 256;
+    match answer {
+        Ok(open) => 256 * u32::from(open),
+        Err(refusal) => u32::from(u8::from(refusal)),
     }
-    a.code as u32
 }

@@ -24,7 +24,8 @@ fn in_span(d: u8, least: u8, most: u8) -> bool
     (least <= d) & (d <= most)
 }
 
-// Whether details d2 to d5 are 0.
+// Whether details d2 to d5 are 0. This and the two after it are a line each: a function over a list of details would be
+// longer, and its proof needs the list's laws.
 fn last_details(m: Message) -> bool
     ensures { result ≡ details_kept [] (m.d2 ∷ m.d3 ∷ m.d4 ∷ m.d5 ∷ []) }
 {

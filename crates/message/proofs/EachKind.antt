@@ -1,6 +1,5 @@
 -- A case principle over the kinds: what holds at each number up to 13, and from 14 on, holds at
 -- every number.
-use mathlib.Core.List.{List, [], ◌∷◌}
 use mathlib.Core.Path.{◌≡◌}
 use Prim.Native.Nat.{ℕ, zero, suc, ◌≤◌}
 use native.Mathlib.Omega.{arith}
@@ -36,9 +35,3 @@ pub no-kind :
     (P : ℕ → Type 0) → P 0 → ((k : ℕ) → 14 ≤ k → P k) → (k : ℕ) → is_kind k ≡ false → P k
 no-kind P none past zero e = none
 no-kind P none past (suc k) e = past (suc k) (grind (arith, nat_tests))
-
--- k is none of the given numbers; a match's last arm has this of the arms before it, the last of
--- them first
-abbrev pub NoneOf : ℕ → List ℕ → Type 0
-NoneOf k [] = Unit {0}
-NoneOf k (x ∷ xs) = NoneOf k xs × (k ≡ x → ⊥)

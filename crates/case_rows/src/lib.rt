@@ -5,7 +5,7 @@
 
 ghost use Rattle.std.specs.Prelude.{◌≡◌};
 ghost use Rattle.case_rows.specs.Rows.{repeated, byte_at, after, after_letter, after_name, name_at, with_digit, number_at};
-ghost use Rattle.case_rows.specs.Rows.{towards_end, after_line, with_byte, with_pair, with_pairs};
+ghost use Rattle.case_rows.specs.Rows.{towards_end, after_line, with_pair, with_pairs};
 
 pub use row::Row;
 
@@ -119,13 +119,6 @@ pub fn after_line(text: &[u8], at: usize) -> usize
     ensures { result ≡ after_line text.now at }
 {
     after(repeated(200, at, |next| towards_end(text, next)))
-}
-
-// Stores a byte, if there is such a place.
-pub fn put(s: &mut [u8], at: usize, value: u8)
-    ensures { s.new ≡ with_byte s.old at value }
-{
-    bigendian::put(s, at, value);
 }
 
 // Stores the damage at a place, if there is more; the place after it.

@@ -26,16 +26,16 @@ impl<'a> Iterator for Cases<'a> {
 
     fn next(&mut self) -> Option<Case<'a>> {
         let bytes = self.0;
-        let first = HEADER + bigendian::get16(bytes, 9) as usize;
-        let second = first + bigendian::get16(bytes, 11) as usize;
+        let first = HEADER + usize::from(bigendian::get::<u16>(bytes, 9));
+        let second = first + usize::from(bigendian::get::<u16>(bytes, 11));
         if bytes.len() < second {
             return None;
         }
         self.0 = &bytes[second..];
         Some(Case {
-            kind: bigendian::get8(bytes, 0),
-            x: bigendian::get32(bytes, 1),
-            y: bigendian::get32(bytes, 5),
+            kind: bigendian::get(bytes, 0),
+            x: bigendian::get(bytes, 1),
+            y: bigendian::get(bytes, 5),
             a: &bytes[HEADER..first],
             b: &bytes[first..second],
         })

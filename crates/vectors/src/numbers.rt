@@ -1,45 +1,26 @@
-// Numbers in the output, the sum that stands for bytes there, and copies of bytes.
-ghost use Rattle.files.specs.Counts.{IsPrefixLen};
+// What stands for an answer and for bytes in the output, and the part of a case that is a buffer.
+use refusals::Refusal;
+use std::alloc::{AllocError, Global};
+use std::fmt::Write;
 
-// Puts a space and a number; says where the next byte goes.
-pub fn put_number(out: &mut [u8], at: usize, n: u32) -> usize {
-    let next = report::put_byte(out, at, b' ');
-    report::put_decimal(out, next, n)
+// Puts the code of an answer, and the index that a refusal names.
+pub fn put_finding<T: Copy>(
+    out: &mut String,
+    answer: Result<T, Refusal>,
+) -> Result<(), AllocError> {
+    let index = answer.err().map_or(0, |refusal| refusal.index());
+    write!(out, " {} {index}", refusals::code(answer))
 }
 
-// Puts two numbers, a space before each; says where the next byte goes.
-pub fn put_two(out: &mut [u8], at: usize, n: u32, m: u32) -> usize {
-    let next = put_number(out, at, n);
-    put_number(out, next, m)
-}
-
-// A sum with one more byte: 31 times the sum, and the byte, cut to 32 bits.
-fn with_byte(sum: u32, b: u8) -> u32 {
-    ((sum as u64 * 31 + b as u64) % 4294967296) as u32
-}
-
-// The sum of bytes: 0 with each byte in turn.
+// The sum of bytes: 0, and with each byte in turn 31 times the sum, and the byte, cut to 32 bits.
 pub fn sum32(s: &[u8]) -> u32 {
-    let mut sum: u32 = 0;
-    let mut i: usize = 0;
-    while i < s.len() {
-        sum = with_byte(sum, s[i]);
-        i += 1;
-    }
-    sum
+    s.iter().fold(
+        0u32,
+        |sum, b| sum.wrapping_mul(31).wrapping_add(u32::from(*b)),
+    )
 }
 
-// Copies bytes to the start of a buffer, as many as it holds; says how many.
-pub fn copied(s: &[u8], buffer: &mut [u8]) -> usize
-    ensures { IsPrefixLen result buffer.new }
-{
-    let mut i: usize = 0;
-    while i < buffer.len() {
-        if s.len() <= i {
-            return i;
-        }
-        buffer[i] = s[i];
-        i += 1;
-    }
-    i
+// A copy of the first n bytes; of all of them if there are fewer.
+pub fn copied(alloc: Global, s: &[u8], n: usize) -> Result<Vec<u8>, AllocError> {
+    s.get(..n).unwrap_or(s).to_vec(alloc)
 }

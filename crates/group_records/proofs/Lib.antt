@@ -1,3 +1,4 @@
+pub mod Search
 pub mod Likes
 pub mod FirstCarrier
 pub mod Guaranteed

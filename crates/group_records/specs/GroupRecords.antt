@@ -1,5 +1,6 @@
 -- Turnout records of version 2: SHEET-2, SHEET-3 and SHEET-11 (docs/RULES.md).
-use Rattle.std.specs.Prelude.{Bool, cond, not, ◌&&◌, ◌||◌, List, ℕ, ◌+◌, ◌*◌, min, eqb, ltb, leb, get_or}
+use Rattle.std.specs.Prelude.{Bool, cond, not, ◌&&◌, ◌||◌, List, Option, Some, None, get_or}
+use Rattle.std.specs.Prelude.{ℕ, ◌+◌, ◌*◌, min, eqb, ltb, leb}
 use Rattle.sets.specs.Range.{first_from}
 use Rattle.sets.specs.Sets.{within, set_of, count}
 use Rattle.sets.specs.Table.{places}
@@ -39,6 +40,13 @@ good_turnout st n =
 -- SHEET-11: "the first bad record ends the reading": its index, or the count where all are good
 unfoldable pub bad_turnout : Station → ℕ
 bad_turnout st = first_from (λ n. not (good_turnout st n)) 0 (turnout_count st)
+
+-- the same for code: a number below a limit, or none; and the first bad record, if there is one
+abbrev pub found_below : ℕ → ℕ → Option ℕ
+found_below n limit = cond (ltb n limit) (Some n) None
+
+abbrev pub first_bad : Station → Option ℕ
+first_bad st = found_below (bad_turnout st) (turnout_count st)
 
 -- For code: a number for each zone below 8 and each drive, and the records that carry it in place of a
 -- group's. The turnouts of one such zone and drive are then tied: the law `same-likes`.

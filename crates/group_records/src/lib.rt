@@ -10,12 +10,11 @@ ghost use Rattle.group_records.specs.GroupRecords.{
   by_zone_drive,
   group_kept,
   turnout_kept,
-  bad_turnout,
+  first_bad,
 };
 
 use groups::carriers::{GROUPS, ties};
-use station::Turnout;
-use station::observe::{at_most_8, at_most_64, no_turnouts};
+use station::{TURNOUTS, Turnout, ZONES};
 
 // The record with a number for its zone and drive in place of its group's.
 fn as_zone_drive(t: Turnout) -> Turnout
@@ -39,12 +38,9 @@ fn as_zone_drive(t: Turnout) -> Turnout
 fn by_zone_drive(p: u8, ts: [Turnout; 64]) -> [Turnout; 64]
     ensures { result ≡ by_zone_drive p ts }
 {
-    let n = at_most_64(p);
-    let mut out = no_turnouts();
-    let mut i: usize = 0;
-    while i < n {
+    let mut out = [Turnout::NONE; TURNOUTS];
+    for i in 0..usize::from(p).min(TURNOUTS) {
         out[i] = as_zone_drive(ts[i]);
-        i += 1;
     }
     out
 }
@@ -66,21 +62,16 @@ fn turnout_kept(z: usize, t: Turnout, group: u64, like: u64) -> bool
     (zone < z) & (t.drive <= 1) & ((t.group == 255) | ((t.group < GROUPS) & kept))
 }
 
-// The index of the first bad one of p turnouts with these records, of z zones; the count if all are good (SHEET-11).
-pub fn first_bad_turnout(p: u8, z: u8, ts: [Turnout; 64]) -> usize
-    ensures { result ≡ bad_turnout (turnouts_alone p z ts) }
+// The index of the first bad one of p turnouts with these records, of z zones; none if all are good (SHEET-11). A count
+// and 64 records, and no slice: `bad_turnout` speaks of a count that may be over its limit (VALUE-1).
+pub fn first_bad_turnout(p: u8, z: u8, ts: [Turnout; 64]) -> Option<u8>
+    ensures { result ≡ first_bad (turnouts_alone p z ts) }
 {
-    let count = at_most_64(p);
-    let zones = at_most_8(z);
+    let zones = usize::from(z).min(ZONES);
     let tied = ties(p, ts);
     let alike = ties(p, by_zone_drive(p, ts));
-    let mut i: usize = 0;
-    while i < count {
-        let t = ts[i];
-        if !turnout_kept(zones, t, tied[i], alike[i]) {
-            return i;
-        }
-        i += 1;
-    }
-    count
+    (0..p.min(64)).find(|i| {
+        let n = usize::from(*i);
+        !turnout_kept(zones, ts[n], tied[n], alike[n])
+    })
 }

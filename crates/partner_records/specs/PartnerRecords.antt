@@ -1,12 +1,13 @@
 -- Turnout records of version 1: SHEET-2, SHEET-11, SHEET-13 and SHEET-14 (docs/RULES.md). The byte where
 -- version 2 has the group's number is the partner there, and the station in the bytes holds it in the
 -- field `group` until its crossovers become groups.
-use Rattle.std.specs.Prelude.{Bool, cond, not, ◌&&◌, ◌||◌, ℕ, min, eqb, ltb, leb}
+use Rattle.std.specs.Prelude.{Bool, cond, not, ◌&&◌, ◌||◌, Option, ℕ, min, eqb, ltb, leb}
 use Rattle.sets.specs.Range.{first_from, count_from}
 use Rattle.sets.specs.Table.{places}
 use Rattle.station.specs.declared.Turnout.{Turnout}
 use Rattle.station.specs.declared.Station.{Station}
 use Rattle.station.specs.Station.{empty_turnout, turnout_at, turnout_count, zone_count}
+use Rattle.group_records.specs.GroupRecords.{found_below}
 
 -- SHEET-13: "A partner is below P, not itself, names it back, and has the same zone and drive": of
 -- turnout n, its record t and its partner's record o
@@ -35,6 +36,10 @@ good_turnout st n =
 -- SHEET-11: "the first bad record ends the reading": its index, or the count where all are good
 unfoldable pub bad_turnout : Station → ℕ
 bad_turnout st = first_from (λ n. not (good_turnout st n)) 0 (turnout_count st)
+
+-- the same for code: the first bad record, if there is one
+abbrev pub first_bad : Station → Option ℕ
+first_bad st = found_below (bad_turnout st) (turnout_count st)
 
 -- turnout n, with the record t, is the lower end of a crossover
 abbrev pub lower_end_of : ℕ → ℕ → Turnout → Bool

@@ -8,13 +8,13 @@ ghost use Rattle.station.specs.Station.{turnouts_alone};
 ghost use Rattle.partner_records.specs.PartnerRecords.{
   turnout_kept,
   partner_kept,
-  bad_turnout,
+  first_bad,
   lower_end_of,
   renumbered,
 };
 
-use station::Turnout;
-use station::observe::{at_most_8, at_most_64, no_turnouts, record_of};
+use station::observe::record_of;
+use station::{TURNOUTS, Turnout, ZONES};
 
 // Whether turnout n, with the record t, and its partner's record o are two ends of a crossover (SHEET-13).
 fn partner_kept(p: usize, n: usize, t: Turnout, o: Turnout) -> bool
@@ -33,21 +33,18 @@ fn turnout_kept(p: usize, z: usize, n: usize, t: Turnout, o: Turnout) -> bool
     (zone < z) & (t.drive <= 1) & ((t.group == 255) | partner_kept(p, n, t, o))
 }
 
-// The index of the first bad one of p turnouts with these records, of z zones; the count if all are good (SHEET-11).
-pub fn first_bad_turnout(p: u8, z: u8, ts: [Turnout; 64]) -> usize
-    ensures { result ≡ bad_turnout (turnouts_alone p z ts) }
+// The index of the first bad one of p turnouts with these records, of z zones; none if all are good (SHEET-11). A count
+// and 64 records, and no slice: `bad_turnout` speaks of a count that may be over its limit (VALUE-1).
+pub fn first_bad_turnout(p: u8, z: u8, ts: [Turnout; 64]) -> Option<u8>
+    ensures { result ≡ first_bad (turnouts_alone p z ts) }
 {
-    let count = at_most_64(p);
-    let zones = at_most_8(z);
-    let mut i: usize = 0;
-    while i < count {
-        let t = ts[i];
-        if !turnout_kept(count, zones, i, t, record_of(ts, t.group as usize)) {
-            return i;
-        }
-        i += 1;
-    }
-    count
+    let count = usize::from(p).min(TURNOUTS);
+    let zones = usize::from(z).min(ZONES);
+    (0..p.min(64)).find(|i| {
+        let n = usize::from(*i);
+        let t = ts[n];
+        !turnout_kept(count, zones, n, t, record_of(ts, usize::from(t.group)))
+    })
 }
 
 // The count, one more where turnout n, with the record t, is the lower end of a crossover of p turnouts.
@@ -81,12 +78,11 @@ fn number_with(below: &[u8; 64], n: usize, partner: u8) -> u8
 pub fn renumber(p: u8, old: [Turnout; 64]) -> [Turnout; 64]
     ensures { result ≡ (renumbered (turnouts_alone p 0 old)).turnout }
 {
-    let n = at_most_64(p);
-    let mut ts = no_turnouts();
+    let n = usize::from(p).min(TURNOUTS);
+    let mut ts = [Turnout::NONE; TURNOUTS];
     let mut below: [u8; 64] = [0; 64];
     let mut found: u8 = 0;
-    let mut i: usize = 0;
-    while i < n {
+    for i in 0..n {
         let t = old[i];
         below[i] = found;
         found = with_lower_end(found, n, i, t);
@@ -95,7 +91,6 @@ pub fn renumber(p: u8, old: [Turnout; 64]) -> [Turnout; 64]
             group: number_with(&below, i, t.group),
             drive: t.drive,
         };
-        i += 1;
     }
     ts
 }

@@ -49,7 +49,8 @@ pub turnouts-refused :
     → sheet_of (Err e) ≡ read_sheet s
 turnouts-refused s v st e good ev es ef =
     let some = some-number e in
-    sym (after-turnouts s v st (found_of {A = Unit} (Err e)) good ev es ef ∙ rw (ne_eqb (number_of e) 0 (λ q. omega arith)))
+    let found = found_of {A = Unit} (Err e) in
+    sym (after-turnouts s v st found good ev es ef ∙ rw (ne_eqb (number_of e) 0 (λ q. omega arith)))
 
 -- a station with other turnouts
 abbrev pub with_turnouts : Station → List Turnout → Station

@@ -1,6 +1,6 @@
 -- Judging a station and reading a sheet of either version: SHEET-1, SHEET-5 to SHEET-9, SHEET-11,
 -- SHEET-12 and SHEET-14 (docs/RULES.md).
-use Rattle.std.specs.Prelude.{Bool, cond, not, ◌&&◌, ◌||◌, List, Result, Ok, Err, ℕ, ◌^◌, ◌-◌, eqb, ltb}
+use Rattle.std.specs.Prelude.{Bool, cond, not, ◌&&◌, ◌||◌, List, Option, Result, Ok, Err, ℕ, ◌^◌, ◌-◌, eqb, ltb}
 use Rattle.std.specs.Int.Bits.{bit_and}
 use Rattle.sets.specs.Range.{first_from, all_from}
 use Rattle.sets.specs.Sets.{has, is_empty, overlaps, within, count}
@@ -73,6 +73,10 @@ good_route st n =
 -- SHEET-11: "the first bad record ends the reading": its index, or the count where all are good
 unfoldable pub bad_route : Station → ℕ
 bad_route st = first_from (λ n. not (good_route st n)) 0 (route_count st)
+
+-- the same for code: the first bad route, if there is one
+abbrev pub first_bad_route : Station → Option ℕ
+first_bad_route st = groups.found_below (bad_route st) (route_count st)
 
 -- SHEET-11: "1, 2, 3, 4 .. 5, 6, with record index from 0 (else 0)"; SHEET-12: "empty station,
 -- every number 0"; so with the panel's 9 (PANEL-2)

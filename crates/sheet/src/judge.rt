@@ -6,7 +6,7 @@ ghost use Rattle.sheet.specs.Sheet.{
   sets_kept,
   member_by,
   pair_in,
-  bad_route,
+  first_bad_route,
   found_of,
   finding_of,
   routes_judged,
@@ -15,14 +15,14 @@ ghost use Rattle.sheet.specs.Sheet.{
   meant,
   judged,
 };
+ghost use Rattle.group_records.specs.GroupRecords.{found_below};
 ghost use Rattle.sets.specs.Table.{places};
 ghost use Rattle.station.specs.Station.{turnouts_alone};
 
 use groups::carriers::ties;
 use groups::is_whole;
 use refusals::Refusal;
-use station::observe::at_most_64;
-use station::{Route, Station, Turnout, names, route_count, turnout_count};
+use station::{Route, Station, TURNOUTS, Turnout, names, turnout_count};
 
 // The set of the first p turnouts.
 fn all_turnouts(p: usize) -> u64
@@ -61,12 +61,9 @@ fn pair_in(group: u64) -> u64
 fn pairs_in(p: u8, groups: [u64; 64]) -> [u64; 64]
     ensures { result ≡ places (λ k. pair_in (get_or groups k 0)) p 0 }
 {
-    let n = at_most_64(p);
     let mut out: [u64; 64] = [0; 64];
-    let mut i: usize = 0;
-    while i < n {
+    for i in 0..usize::from(p).min(TURNOUTS) {
         out[i] = pair_in(groups[i]);
-        i += 1;
     }
     out
 }
@@ -82,48 +79,43 @@ fn member_kept(r: Route, n: usize, t: Turnout, group: u64, pair: u64) -> bool
         & is_whole(pair & named, r.reverse)
 }
 
-// The index of the first bad route; the count if all are good (SHEET-11, FORM-7).
-fn first_bad_route(st: Station) -> usize
-    ensures { result ≡ bad_route st }
+// The index of the first bad route; none if all are good (SHEET-11, FORM-7).
+fn first_bad_route(st: Station) -> Option<u8>
+    ensures { result ≡ first_bad_route st }
 {
     let p = turnout_count(st);
-    let n = route_count(st);
     let ts = st.turnout;
     let tied = ties(st.turnouts, ts);
     let pairs = pairs_in(st.turnouts, tied);
-    let mut i: usize = 0;
-    'routes: while i < n {
-        let r = st.route[i];
+    let mut bad = None;
+    'routes: for i in 0..st.routes.min(64) {
+        let r = st.route[usize::from(i)];
         if !sets_kept(p, r) {
+            bad = Some(i);
             break 'routes;
         }
-        let mut k: usize = 0;
-        while k < p {
-            let t = ts[k];
-            if !member_kept(r, k, t, tied[k], pairs[k]) {
+        for k in 0..p {
+            if !member_kept(r, k, ts[k], tied[k], pairs[k]) {
+                bad = Some(i);
                 break 'routes;
             }
-            k += 1;
         }
-        i += 1;
     }
-    i
+    bad
 }
 
 // Judges the routes of a station whose turnouts are good: the first bad one refuses it.
+#[tactic(auto, unfolding(crate::specs::Sheet::routes_judged))]
 pub fn judge_routes(st: Station) -> Result<(), Refusal>
     ensures { found_of result ≡ finding_of (routes_judged st) }
 {
-    let r = first_bad_route(st);
-    if r < route_count(st) {
-        return Err(Refusal::BadRoute(r as u8));
-    }
-    Ok(())
+    first_bad_route(st).map_or(Ok(()), |r| Err(Refusal::BadRoute(r)))
 }
 
-// The index of the first bad one of p turnouts with these records, of z zones, by the version of their sheet.
-fn first_bad_turnout(version: u16, p: u8, z: u8, ts: [Turnout; 64]) -> usize
-    ensures { result ≡ bad_turnout_by version (turnouts_alone p z ts) }
+// The first bad one of p turnouts with these records, of z zones, by the version of their sheet. The version stays its
+// number, which a caller may give as it stands in a sheet: an enum would be made of it, and matched here and below.
+fn first_bad_turnout(version: u16, p: u8, z: u8, ts: [Turnout; 64]) -> Option<u8>
+    ensures { result ≡ found_below (bad_turnout_by version (turnouts_alone p z ts)) (min p 64) }
 {
     if version == 1 {
         return partner_records::first_bad_turnout(p, z, ts);
@@ -135,11 +127,7 @@ fn first_bad_turnout(version: u16, p: u8, z: u8, ts: [Turnout; 64]) -> usize
 pub fn judge_turnouts(version: u16, p: u8, z: u8, ts: [Turnout; 64]) -> Result<(), Refusal>
     ensures { found_of result ≡ turnouts_found version (turnouts_alone p z ts) }
 {
-    let t = first_bad_turnout(version, p, z, ts);
-    if t < at_most_64(p) {
-        return Err(Refusal::BadTurnout(t as u8));
-    }
-    Ok(())
+    first_bad_turnout(version, p, z, ts).map_or(Ok(()), |t| Err(Refusal::BadTurnout(t)))
 }
 
 // The records of p turnouts with their groups' numbers, by the version of their sheet (SHEET-14).

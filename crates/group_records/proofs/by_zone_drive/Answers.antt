@@ -1,4 +1,4 @@
-use Rattle.std.proofs.Common.{◌≡◌, ℕ, ◌<◌, List, sym, ap, ◌∙◌, rules, arith}
+use Rattle.std.proofs.Common.{◌≡◌, ℕ, ◌<◌, List, sym, ap, ◌∙◌, arith}
 use mathlib.Core.Path.{ap₂}
 use Prim.Native.Nat.{min}
 use lib.ListN.{set}
@@ -11,24 +11,20 @@ use Rattle.group_records.proofs.by_zone_drive.Invariants.{record_of}
 use Rattle.group_records.proofs.by_zone_drive.Goals as goal
 
 pub loop-i-init : goal.loop-i-init
-loop-i-init c =
-    (search rules, c.no_turnouts-out.ensures ∙ sym (places-none (record_of c.args.ts) empty_turnout))
+loop-i-init c = sym (places-none (record_of c.args.ts) empty_turnout)
 
 pub loop-i-preserved : goal.loop-i-preserved
 loop-i-preserved c =
-    let ts = c.args.ts in
     let i = c.loop-i.i in
-    let inside : i < 64 = omega arith in (
-      search rules,
-      ap₂ (λ (l : List Turnout) (t : Turnout). set l i t) c.loop-i.invariant.1 c.as_zone_drive.ensures
-          ∙ places-next (record_of ts) i empty_turnout inside,
-    )
+    let inside : i < 64 = omega arith in
+    ap₂ (λ (l : List Turnout) (t : Turnout). set l i t) c.loop-i.invariant c.as_zone_drive.ensures
+    ∙ places-next (record_of c.args.ts) i empty_turnout inside
 
 pub returns : goal.returns
 unfolding by_zone_drive
 returns c =
     let ts = c.args.ts in
     let all : c.loop-i.i ≡ min c.args.p 64 = omega arith in
-    c.loop-i.invariant.1
+    c.loop-i.invariant
     ∙ ap (λ (m : ℕ). places (record_of ts) m empty_turnout) all
     ∙ places-limit (record_of ts) c.args.p empty_turnout

@@ -1,5 +1,5 @@
 -- The invariant is the table filled so far.
-use Rattle.std.proofs.Common.{◌≡◌, ◌-◌, ◌≤◌, ℕ, List}
+use Rattle.std.proofs.Common.{◌≡◌, ℕ, List}
 use lib.ListN.{get_or}
 use Rattle.sets.specs.Table.{places}
 use Rattle.station.specs.declared.Turnout.{Turnout}
@@ -11,7 +11,4 @@ abbrev pub record_of : List Turnout → ℕ → Turnout
 record_of ts k = as_zone_drive (get_or ts k empty_turnout)
 
 abbrev pub invariant-loop-i : goal.invariant-loop-i
-invariant-loop-i l = (l.i ≤ l.n) × (l.out ≡ places (record_of l.ts) l.i empty_turnout)
-
-abbrev pub decreases-loop-i : goal.decreases-loop-i
-decreases-loop-i l = l.n - l.i
+invariant-loop-i l = l.out ≡ places (record_of l.ts) l.i empty_turnout

@@ -1,19 +1,24 @@
-use Rattle.std.proofs.Common.{◌≡◌, ℕ, ◌-◌, ◌≤◌, ◌<◌, List, true, false, sym, ap, ◌∙◌, rules, arith}
+use Rattle.std.proofs.Common.{◌≡◌, ℕ, ◌<◌, ◌≤◌, List, Bool, true, false, sym, ap, ◌∙◌, rules, arith}
 use mathlib.Core.Bool.{not}
+use mathlib.Core.Path.{ap₂}
 use lib.ListN.{get_or}
+use Rattle.std.proofs.lemmas.Iterator.{first_from_Range}
 use Rattle.sets.specs.Range.{first_from}
 use Rattle.sets.specs.Table.{places}
-use Rattle.sets.proofs.Ranges.{first_next, first-end}
 use Rattle.sets.proofs.Finding.{first-same}
 use Rattle.sets.proofs.Tables.{places-below}
 use Rattle.station.specs.declared.Turnout.{Turnout}
 use Rattle.station.specs.declared.Station.{Station}
-use Rattle.station.specs.Station.{turnouts_alone, turnout_at, turnout_count, zone_count}
+use Rattle.station.specs.Station.{empty_turnout, turnouts_alone, turnout_at, turnout_count, zone_count}
 use Rattle.groups.specs.Groups.{tied, tied_among}
-use Rattle.group_records.specs.GroupRecords.{alike, turnout_kept, by_zone_drive, good_turnout, bad_turnout}
+use Rattle.group_records.specs.GroupRecords.{alike, turnout_kept, by_zone_drive, good_turnout, bad_turnout, found_below}
 use Rattle.group_records.proofs.Likes.{same-likes, asked_of}
-use Rattle.group_records.proofs.first_bad_turnout.Invariants.{bad}
+use Rattle.group_records.proofs.Search.{searched}
 use Rattle.group_records.proofs.first_bad_turnout.Goals as goal
+
+-- turnout k of the records ts is bad, by the tables of what is tied to it and like it
+abbrev bad : ℕ → List Turnout → List ℕ → List ℕ → ℕ → Bool
+bad z ts ties likes k = not (turnout_kept z (get_or ts k empty_turnout) (get_or ties k 0) (get_or likes k 0))
 
 -- the rule, by the numbers and the tables that the code has
 found :
@@ -50,46 +55,16 @@ found st p z kinds ties likes ep ez ek et el =
         ∙ asked
         ∙ ap (λ (g : ℕ). turnout_kept z t g (get_or likes k 0)) (sym group)
 
-pub returns-then-not-turnout_kept : goal.returns-then-not-turnout_kept
-returns-then-not-turnout_kept c =
-    let st = turnouts_alone c.args.p c.args.z c.args.ts in
-    let p = c.at_most_64-count in
-    let z = c.at_most_8-zones in
-    let ties = c.ties-tied in
-    let kinds = c.by_zone_drive in
-    let likes = c.ties-alike in
-    let test = bad z.result st.turnout ties.result likes.result in
-    let i = c.loop-i.i in
-    let now-bad : test i ≡ true = ap not (sym c.turnout_kept.ensures ∙ c.if-not-turnout_kept.true) in
-    let start =
-    found st p.result z.result kinds.result ties.result likes.result
-    p.ensures z.ensures kinds.ensures ties.ensures likes.ensures in
-    let more = c.loop-i-test.true in
-    sym (start ∙ c.loop-i.invariant.1 ∙ first_next test i p.result more ∙ rw now-bad)
-
-pub loop-i-preserved : goal.loop-i-preserved
-loop-i-preserved c =
-    let ts = c.args.ts in
-    let p = c.at_most_64-count.result in
-    let test = bad c.at_most_8-zones.result ts c.ties-tied.result c.ties-alike.result in
-    let i = c.loop-i.i in
-    let now-good : test i ≡ false = ap not (sym c.turnout_kept.ensures ∙ c.if-not-turnout_kept.false) in
-    let more = c.loop-i-test.true in
-    (search rules, c.loop-i.invariant.1 ∙ first_next test i p more ∙ rw now-good)
-
 pub returns : goal.returns
 returns c =
     let st = turnouts_alone c.args.p c.args.z c.args.ts in
-    let p = c.at_most_64-count in
-    let z = c.at_most_8-zones in
-    let ties = c.ties-tied in
-    let kinds = c.by_zone_drive in
-    let likes = c.ties-alike in
-    let test = bad z.result st.turnout ties.result likes.result in
-    let all : c.loop-i.i ≡ p.result = omega arith in
-    let start =
-    found st p.result z.result kinds.result ties.result likes.result
-    p.ensures z.ensures kinds.ensures ties.ensures likes.ensures in
-    let left =
-    start ∙ c.loop-i.invariant.1 ∙ ap (λ (k : ℕ). first_from test k (p.result - k)) all in
-    sym (left ∙ first-end test p.result)
+    let n = c.min.result in
+    let test = bad c.min-zones.result c.args.ts c.ties-tied.result c.ties-alike.result in
+    let first =
+    found st n c.min-zones.result c.by_zone_drive.result c.ties-tied.result c.ties-alike.result
+    (search rules) (search rules) c.by_zone_drive.ensures c.ties-tied.ensures c.ties-alike.ensures in
+    let whole : n ≡ turnout_count st = search rules in
+    searched test n c.find.result
+    (first_from_Range _ _ _ c.find.result (λ k. test k ≡ true) (λ k. test k ≡ false) c.find.ensures.ran
+    (λ k q h. search rules) (λ k q h. search rules))
+    ∙ ap₂ found_below (sym first) whole

@@ -1,22 +1,22 @@
-use Rattle.std.proofs.Common.{◌≡◌, ℕ, ◌-◌, List, Bool, true, false, sym, ap, ◌∙◌, rules, arith}
+use Rattle.std.proofs.Common.{◌≡◌, ℕ, List, Bool, true, false, sym, ap, ◌∙◌, rules}
 use mathlib.Core.Bool.{not}
+use mathlib.Core.Path.{ap₂}
 use lib.ListN.{get_or}
+use Rattle.std.proofs.lemmas.Iterator.{first_from_Range}
 use Rattle.sets.specs.Range.{first_from}
-use Rattle.sets.proofs.Ranges.{first_next, first-end}
 use Rattle.station.specs.declared.Turnout.{Turnout}
 use Rattle.station.specs.declared.Station.{Station}
 use Rattle.station.specs.Station.{empty_turnout, turnouts_alone, turnout_count, zone_count}
+use Rattle.group_records.specs.GroupRecords.{found_below}
+use Rattle.group_records.proofs.Search.{searched}
 use Rattle.partner_records.specs.PartnerRecords.{turnout_kept, good_turnout, bad_turnout}
-use Rattle.partner_records.proofs.first_bad_turnout.Invariants.{bad}
 use Rattle.partner_records.proofs.first_bad_turnout.Goals as goal
 
--- what the test of a turn says
-kept :
-    (p z i : ℕ) (ts : List Turnout) (o : Turnout) {b c : Bool}
-    → b ≡ turnout_kept p z i (get_or ts i empty_turnout) o
-    → o ≡ get_or ts (get_or ts i empty_turnout).group empty_turnout → b ≡ c → bad p z ts i ≡ not c
-kept p z i ts o eb eo ec =
-    ap (λ (x : Turnout). not (turnout_kept p z i (get_or ts i empty_turnout) x)) (sym eo) ∙ ap not (sym eb ∙ ec)
+-- turnout n of the records ts is bad
+abbrev bad : ℕ → ℕ → List Turnout → ℕ → Bool
+bad p z ts n =
+    not (turnout_kept p z n (get_or ts n empty_turnout)
+    (get_or ts (get_or ts n empty_turnout).group empty_turnout))
 
 -- the first bad turnout, by the numbers that the code has
 found :
@@ -25,37 +25,16 @@ found :
 unfolding bad_turnout good_turnout
 found st p z ep ez = rw (ep, ez)
 
-pub returns-then-not-turnout_kept : goal.returns-then-not-turnout_kept
-returns-then-not-turnout_kept c =
-    let turnouts = c.at_most_64-count in
-    let zones = c.at_most_8-zones in
-    let ts = c.args.ts in
-    let p = turnouts.result in
-    let z = zones.result in
-    let i = c.loop-i.i in
-    let start = found (turnouts_alone c.args.p c.args.z ts) p z turnouts.ensures zones.ensures in
-    let now-bad : bad p z ts i ≡ true =
-    kept p z i ts c.record_of.result c.turnout_kept.ensures c.record_of.ensures c.if-not-turnout_kept.true in
-    sym (start ∙ c.loop-i.invariant.1 ∙ first_next (bad p z ts) i p c.loop-i-test.true ∙ rw now-bad)
-
-pub loop-i-preserved : goal.loop-i-preserved
-loop-i-preserved c =
-    let ts = c.args.ts in
-    let p = c.at_most_64-count.result in
-    let z = c.at_most_8-zones.result in
-    let i = c.loop-i.i in
-    let now-good : bad p z ts i ≡ false =
-    kept p z i ts c.record_of.result c.turnout_kept.ensures c.record_of.ensures c.if-not-turnout_kept.false in
-    (search rules, c.loop-i.invariant.1 ∙ first_next (bad p z ts) i p c.loop-i-test.true ∙ rw now-good)
-
 pub returns : goal.returns
 returns c =
-    let turnouts = c.at_most_64-count in
-    let zones = c.at_most_8-zones in
-    let ts = c.args.ts in
-    let p = turnouts.result in
-    let z = zones.result in
-    let start = found (turnouts_alone c.args.p c.args.z ts) p z turnouts.ensures zones.ensures in
-    let all : c.loop-i.i ≡ p = omega arith in
-    let left = start ∙ c.loop-i.invariant.1 ∙ ap (λ (k : ℕ). first_from (bad p z ts) k (p - k)) all in
-    sym (left ∙ first-end (bad p z ts) p)
+    let st = turnouts_alone c.args.p c.args.z c.args.ts in
+    let p = c.min-count.result in
+    let z = c.min-zones.result in
+    let n = c.min.result in
+    let same : p ≡ n = search rules in
+    let whole : p ≡ turnout_count st = search rules in
+    let test = bad p z c.args.ts in
+    searched test n c.find.result
+    (first_from_Range _ _ _ c.find.result (λ k. test k ≡ true) (λ k. test k ≡ false) c.find.ensures.ran
+    (λ k q h. search rules) (λ k q h. search rules))
+    ∙ ap₂ found_below (ap (first_from test 0) (sym same) ∙ sym (found st p z whole (search rules))) (sym same ∙ whole)

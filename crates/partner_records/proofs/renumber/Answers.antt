@@ -37,18 +37,17 @@ one_more false h e = omega arith
 pub loop-i-init : goal.loop-i-init
 unfolding count_from
 loop-i-init c =
-    let n = c.at_most_64-n.result in
+    let n = c.min-n.result in
     let old = c.args.old in (
-      search rules,
       search rules,
       refl,
       sym (places-none (below-it n old) 0),
-      c.no_turnouts-ts.ensures ∙ sym (places-none (numbered n old) empty_turnout),
+      sym (places-none (numbered n old) empty_turnout),
     )
 
 pub loop-i-preserved : goal.loop-i-preserved
 loop-i-preserved c =
-    let n = c.at_most_64-n.result in
+    let n = c.min-n.result in
     let old = c.args.old in
     let inv = c.loop-i.invariant in
     let i = c.loop-i.i in
@@ -58,14 +57,13 @@ loop-i-preserved c =
     let f = below-it n old in
     let number =
     c.number_with.ensures
-    ∙ number-found f i inside c.loop-i.below inv.3 c.loop-i.found inv.2 t in (
-      search rules,
-      one_more (lower n old i) inv.1 more,
+    ∙ number-found f i inside c.loop-i.below inv.2 c.loop-i.found inv.1 t in (
+      one_more (lower n old i) inv.0 more,
       more
-          ∙ ap (λ (x : ℕ). x + cond (lower n old i) 1 0) inv.2
+          ∙ ap (λ (x : ℕ). x + cond (lower n old i) 1 0) inv.1
           ∙ sym (count-more (lower n old) i),
-      stored f i inside c.loop-i.below inv.3 c.loop-i.found inv.2,
-      ap₂ (λ (l : List Turnout) (g : ℕ). set l i (with_number t g)) inv.4 number
+      stored f i inside c.loop-i.below inv.2 c.loop-i.found inv.1,
+      ap₂ (λ (l : List Turnout) (g : ℕ). set l i (with_number t g)) inv.3 number
           ∙ places-next (numbered n old) i empty_turnout inside,
     )
 
@@ -73,7 +71,8 @@ pub returns : goal.returns
 unfolding pair_number renumbered
 returns c =
     let st = turnouts_alone c.args.p 0 c.args.old in
+    let whole : c.min-n.result ≡ turnout_count st = search rules in
     let all : c.loop-i.i ≡ turnout_count st = omega arith in
-    c.loop-i.invariant.4
-    ∙ ap₂ (λ (p m : ℕ). places (numbered p st.turnout) m empty_turnout) c.at_most_64-n.ensures all
+    c.loop-i.invariant.3
+    ∙ ap₂ (λ (p m : ℕ). places (numbered p st.turnout) m empty_turnout) whole all
     ∙ places-limit (numbered (turnout_count st) st.turnout) st.turnouts empty_turnout

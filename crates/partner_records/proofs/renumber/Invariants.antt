@@ -1,5 +1,5 @@
 -- The invariant is the tables filled so far, of records and of how many lower ends stand below each.
-use Rattle.std.proofs.Common.{◌≡◌, ◌-◌, ◌≤◌, ℕ, List, Bool, cond}
+use Rattle.std.proofs.Common.{◌≡◌, ◌≤◌, ℕ, List, Bool, cond}
 use Prim.Native.Nat.{min}
 use lib.Dec.{eqb}
 use lib.ListN.{get_or}
@@ -29,11 +29,7 @@ numbered p ts k =
 
 abbrev pub invariant-loop-i : goal.invariant-loop-i
 invariant-loop-i l =
-    (l.i ≤ l.n)
-    × (l.found ≤ l.i)
+    (l.found ≤ l.i)
     × (l.found ≡ below-it l.n l.old l.i)
     × (l.below ≡ places (below-it l.n l.old) l.i 0)
     × (l.ts ≡ places (numbered l.n l.old) l.i empty_turnout)
-
-abbrev pub decreases-loop-i : goal.decreases-loop-i
-decreases-loop-i l = l.n - l.i

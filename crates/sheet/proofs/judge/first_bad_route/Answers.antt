@@ -1,6 +1,6 @@
-use Rattle.std.proofs.Common.{◌≡◌, ℕ, ◌-◌, ◌<◌, List, true, false, sym, ap, ◌∙◌, rules, arith}
+use Rattle.std.proofs.Common.{◌≡◌, ℕ, ◌-◌, ◌≤◌, ◌<◌, List, None, Some, true, false, sym, ap, ◌∙◌, rules, arith}
 use mathlib.Core.Path.{ap₂}
-use native.Mathlib.Nat.{sub-zero}
+use borrow.Author.Tests.{lt-ltb, le-ltb}
 use Prim.Native.Nat.{min}
 use lib.ListN.{get_or}
 use Rattle.sets.specs.Range.{all_from, first_from}
@@ -12,6 +12,7 @@ use Rattle.station.specs.declared.Route.{Route}
 use Rattle.station.specs.Station.{turnout_at, route_at, turnout_count, route_count}
 use Rattle.groups.specs.Groups.{tied, tied_among}
 use Rattle.sheet.specs.Sheet.{member_by, pair_in, good_route, bad_route}
+use Rattle.group_records.specs.GroupRecords.{found_below}
 use Rattle.sheet.proofs.ByPair.{by-pair}
 use Rattle.sheet.proofs.judge.first_bad_route.Invariants.{test, bad_for, bad}
 use Rattle.sheet.proofs.judge.first_bad_route.Goals as goal
@@ -42,74 +43,87 @@ by-tables st r k ties pairs et ep below =
     ap₂ (λ (g q : ℕ). member_by r k (turnout_at st k) g q) group pair
     ∙ by-pair r k (turnout_at st k) (tied st k)
 
-pub routes-init : goal.routes-init
-routes-init c = (search rules, rw sub-zero)
+-- what is found below the count of routes, and what is not
+told-at : (b k i : ℕ) → b ≡ i → i < k → Some i ≡ found_below b k
+told-at b k i e l = rw (e, lt-ltb i k l)
 
-pub loop-k-init : goal.loop-k-init
-loop-k-init c = (search rules, rw sub-zero)
+told-none : (b k : ℕ) → k ≤ b → None ≡ found_below b k
+told-none b k l = rw (le-ltb b k l)
 
 pub loop-k-preserved : goal.loop-k-preserved
 loop-k-preserved c =
     let st = c.args.st in
     let p = c.turnout_count-p.result in
-    let r = route_at st c.routes.i in
+    let r = route_at st c.from.result in
     let k = c.loop-k.k in
     let below : k < turnout_count st = omega arith in
     let tested =
     by-tables st r k c.ties-tied.result c.pairs_in-pairs.result c.ties-tied.ensures c.pairs_in-pairs.ensures below in
     let passes : test st r k ≡ true = sym (c.member_kept.ensures ∙ tested) ∙ c.if-not-member_kept.false in
-    (search rules, c.loop-k.invariant.1 ∙ all-next (test st r) k p c.loop-k-test.true ∙ rw passes)
+    (c.loop-k.invariant.0, c.loop-k.invariant.1 ∙ all-next (test st r) k p c.loop-k-test.true ∙ rw passes)
 
 pub routes-preserved : goal.routes-preserved
 routes-preserved c =
     let st = c.args.st in
     let p = c.turnout_count-p.result in
-    let n = c.route_count-n.result in
+    let n = c.min-i-end.result in
     let i = c.routes.i in
     let k = c.loop-k.k in
-    let r = route_at st i in
+    let r = route_at st c.from.result in
     let sets = sym c.sets_kept.ensures ∙ c.if-not-sets_kept.false in
     let ended : k ≡ p = omega arith in
     let all =
     c.loop-k.invariant.1 ∙ ap (λ (j : ℕ). all_from (test st r) j (p - j)) ended ∙ all_end (test st r) p in
-    let good : bad p st i ≡ false = rw (sets, all) in
-    (search rules, c.routes.invariant.1 ∙ first_next (bad p st) i n c.routes-test.true ∙ rw good)
+    let passes : bad p st c.from.result ≡ false = rw (sets, all) in
+    let good : bad p st i ≡ false = ap (bad p st) (sym c.from.ensures) ∙ passes in
+    (c.loop-k.invariant.0, c.routes.invariant.1 ∙ first_next (bad p st) i n c.routes-test.true ∙ rw good)
 
 pub returns-after-routes : goal.returns-after-routes
 returns-after-routes c =
     let st = c.args.st in
     let p = c.turnout_count-p.result in
-    let n = c.route_count-n.result in
+    let n = c.min-i-end.result in
+    let whole : n ≡ route_count st = search rules in
     let ended : c.routes.i ≡ n = omega arith in
-    let start = found st p n c.turnout_count-p.ensures c.route_count-n.ensures in
-    let left = start ∙ c.routes.invariant.1 ∙ ap (λ (j : ℕ). first_from (bad p st) j (n - j)) ended in
-    ended ∙ sym (left ∙ first-end (bad p st) n)
+    let start = found st p n c.turnout_count-p.ensures whole in
+    let left =
+    start ∙ c.routes.invariant.1 ∙ ap (λ (j : ℕ). first_from (bad p st) j (n - j)) ended
+    ∙ first-end (bad p st) n in
+    c.routes.invariant.0 ∙ told-none (bad_route st) (route_count st) (omega (arith, left, whole))
 
 pub returns-then-not-sets_kept : goal.returns-then-not-sets_kept
 returns-then-not-sets_kept c =
     let st = c.args.st in
     let p = c.turnout_count-p.result in
-    let n = c.route_count-n.result in
+    let n = c.min-i-end.result in
     let i = c.routes.i in
+    let whole : n ≡ route_count st = search rules in
     let sets = sym c.sets_kept.ensures ∙ c.if-not-sets_kept.true in
-    let now-bad : bad p st i ≡ true = rw sets in
-    let start = found st p n c.turnout_count-p.ensures c.route_count-n.ensures in
-    sym (start ∙ c.routes.invariant.1 ∙ first_next (bad p st) i n c.routes-test.true ∙ rw now-bad)
+    let fails : bad p st c.from.result ≡ true = rw sets in
+    let now-bad : bad p st i ≡ true = ap (bad p st) (sym c.from.ensures) ∙ fails in
+    let start = found st p n c.turnout_count-p.ensures whole in
+    let here : bad_route st ≡ i =
+    start ∙ c.routes.invariant.1 ∙ first_next (bad p st) i n c.routes-test.true ∙ rw now-bad in
+    told-at (bad_route st) (route_count st) i here (omega (arith, whole))
 
 pub returns-then-not-member_kept : goal.returns-then-not-member_kept
 returns-then-not-member_kept c =
     let st = c.args.st in
     let p = c.turnout_count-p.result in
-    let n = c.route_count-n.result in
+    let n = c.min-i-end.result in
     let i = c.routes.i in
-    let r = route_at st i in
+    let r = route_at st c.from.result in
     let k = c.loop-k.k in
+    let whole : n ≡ route_count st = search rules in
     let sets = sym c.sets_kept.ensures ∙ c.if-not-sets_kept.false in
     let below : k < turnout_count st = omega arith in
     let tested =
     by-tables st r k c.ties-tied.result c.pairs_in-pairs.result c.ties-tied.ensures c.pairs_in-pairs.ensures below in
-    let fails : test st r k ≡ false = sym (c.member_kept.ensures ∙ tested) ∙ c.if-not-member_kept.true in
+    let member : test st r k ≡ false = sym (c.member_kept.ensures ∙ tested) ∙ c.if-not-member_kept.true in
     let some = c.loop-k.invariant.1 ∙ all-next (test st r) k p c.loop-k-test.true in
-    let now-bad : bad p st i ≡ true = rw (sets, some, fails) in
-    let start = found st p n c.turnout_count-p.ensures c.route_count-n.ensures in
-    sym (start ∙ c.routes.invariant.1 ∙ first_next (bad p st) i n c.routes-test.true ∙ rw now-bad)
+    let fails : bad p st c.from.result ≡ true = rw (sets, some, member) in
+    let now-bad : bad p st i ≡ true = ap (bad p st) (sym c.from.ensures) ∙ fails in
+    let start = found st p n c.turnout_count-p.ensures whole in
+    let here : bad_route st ≡ i =
+    start ∙ c.routes.invariant.1 ∙ first_next (bad p st) i n c.routes-test.true ∙ rw now-bad in
+    told-at (bad_route st) (route_count st) i here (omega (arith, whole))

@@ -1,6 +1,6 @@
 -- Both invariants say that what is still to be found is the answer; the label leaves both loops
 -- with the index.
-use Rattle.std.proofs.Common.{◌≡◌, ◌-◌, ◌≤◌, ℕ, Bool, ◌&&◌}
+use Rattle.std.proofs.Common.{◌≡◌, ◌-◌, ℕ, Bool, None, ◌&&◌}
 use mathlib.Core.Bool.{not}
 use Prim.Native.Nat.{min}
 use Rattle.sets.specs.Range.{all_from, first_from}
@@ -24,14 +24,9 @@ bad p = bad_for (min p 64) p
 
 abbrev pub invariant-loop-k : goal.invariant-loop-k
 invariant-loop-k l =
-    (l.k ≤ l.p) × (all_from (test l.st l.r) 0 l.p ≡ all_from (test l.st l.r) l.k (l.p - l.k))
-
-abbrev pub decreases-loop-k : goal.decreases-loop-k
-decreases-loop-k l = l.p - l.k
+    (l.bad ≡ None) × (all_from (test l.st l.r) 0 l.p ≡ all_from (test l.st l.r) l.k (l.p - l.k))
 
 abbrev pub invariant-routes : goal.invariant-routes
 invariant-routes l =
-    (l.i ≤ l.n) × (first_from (bad l.p l.st) 0 l.n ≡ first_from (bad l.p l.st) l.i (l.n - l.i))
-
-abbrev pub decreases-routes : goal.decreases-routes
-decreases-routes l = l.n - l.i
+    (l.bad ≡ None)
+    × (first_from (bad l.p l.st) 0 l.i-end ≡ first_from (bad l.p l.st) l.i (l.i-end - l.i))

@@ -16,13 +16,10 @@ ghost use Rattle.layout.specs.Layout.{
   header_number,
   turnout_in,
   route_in,
-  turnout_place,
-  route_place,
   station_in,
 };
 ghost use Rattle.refusals.specs.Numbers.{code_of};
 ghost use Rattle.sets.specs.Table.{places};
-ghost use Rattle.station.specs.Station.{empty_turnout, empty_route};
 
 use refusals::{Refusal, refuse_if};
 use station::{Route, Station, Turnout};
@@ -30,20 +27,13 @@ use station::{Route, Station, Turnout};
 // The length of the header.
 const HEADER: u16 = 8;
 
-// A record that is 0.
-const NO_TURNOUT: Turnout = Turnout {
-    zone: 0,
-    group: 0,
-    drive: 0,
-};
-
 // The letters SPT.
 fn has_mark(s: &[u8]) -> bool
     ensures { result ≡ has_mark s.now }
 {
-    (bigendian::get8(s, 0) == b'S')
-        & (bigendian::get8(s, 1) == b'P')
-        & (bigendian::get8(s, 2) == b'T')
+    (bigendian::get::<u8>(s, 0) == b'S')
+        & (bigendian::get::<u8>(s, 1) == b'P')
+        & (bigendian::get::<u8>(s, 2) == b'T')
 }
 
 // Whether there are at most so many turnouts and routes.
@@ -71,7 +61,7 @@ fn version_kept(v: u16) -> bool
 pub fn version_of(s: &[u8]) -> u16
     ensures { result ≡ version s.now }
 {
-    bigendian::get16(s, 3)
+    bigendian::get(s, 3)
 }
 
 // The length of a sheet with so many turnouts and routes (SHEET-10).
@@ -86,9 +76,9 @@ pub fn before_length(s: &[u8]) -> Result<(), Refusal>
     ensures { code_of result ≡ before_length s.now 0 }
 {
     let counts = counts_kept(
-        bigendian::get8(s, 5),
-        bigendian::get8(s, 6),
-        bigendian::get8(s, 7),
+        bigendian::get::<u8>(s, 5),
+        bigendian::get::<u8>(s, 6),
+        bigendian::get::<u8>(s, 7),
     );
     refuse_if(s.len() < HEADER as usize, Refusal::BadLength)?;
     refuse_if(!has_mark(s), Refusal::BadMark)?;
@@ -100,7 +90,7 @@ pub fn before_length(s: &[u8]) -> Result<(), Refusal>
 pub fn check_length(s: &[u8]) -> Result<(), Refusal>
     ensures { code_of result ≡ length_number s.now }
 {
-    let length = sheet_length(bigendian::get8(s, 5), bigendian::get8(s, 6));
+    let length = sheet_length(bigendian::get::<u8>(s, 5), bigendian::get::<u8>(s, 6));
     refuse_if(s.len() != length, Refusal::BadLength)
 }
 
@@ -118,9 +108,9 @@ fn turnout_in(s: &[u8], at: u16) -> Turnout
 {
     let at = at as usize;
     Turnout {
-        zone: bigendian::get8(s, at),
-        group: bigendian::get8(s, at + 1),
-        drive: bigendian::get8(s, at + 2),
+        zone: bigendian::get(s, at),
+        group: bigendian::get(s, at + 1),
+        drive: bigendian::get(s, at + 2),
     }
 }
 
@@ -129,11 +119,11 @@ fn route_in(s: &[u8], at: u16) -> Route
 {
     let at = at as usize;
     Route {
-        zone: bigendian::get8(s, at),
-        over: bigendian::get64(s, at + 1),
-        flank: bigendian::get64(s, at + 9),
-        exits: bigendian::get64(s, at + 17),
-        reverse: bigendian::get64(s, at + 25),
+        zone: bigendian::get(s, at),
+        over: bigendian::get(s, at + 1),
+        flank: bigendian::get(s, at + 9),
+        exits: bigendian::get(s, at + 17),
+        reverse: bigendian::get(s, at + 25),
     }
 }
 
@@ -154,18 +144,14 @@ fn table<T: Copy, F: Fn(u8) -> T>(n: u8, empty: T, at: F) -> [T; 64]
 pub fn station_in(s: &[u8]) -> Station
     ensures { result ≡ station_in s.now }
 {
-    let p = bigendian::get8(s, 5);
-    let r = bigendian::get8(s, 6);
+    let p = bigendian::get::<u8>(s, 5);
+    let r = bigendian::get::<u8>(s, 6);
     let first = HEADER + 3 * (p as u16);
     Station {
         turnouts: p,
         routes: r,
-        zones: bigendian::get8(s, 7),
-        turnout: table(p, NO_TURNOUT, |i| turnout_in(s, HEADER + 3 * (i as u16))),
-        route: table(
-            r,
-            station::route_none(),
-            |i| route_in(s, first + 33 * (i as u16)),
-        ),
+        zones: bigendian::get(s, 7),
+        turnout: table(p, Turnout::NONE, |i| turnout_in(s, HEADER + 3 * (i as u16))),
+        route: table(r, Route::NONE, |i| route_in(s, first + 33 * (i as u16))),
     }
 }

@@ -111,7 +111,13 @@ module _ (s : List ℕ) where
   unfolding read_panel_sheet
   answer-refused e h =
       let some = some-number e in
-      rw (← h, no-index e (λ q. other 5 (omega arith) (omega arith) (sym h ∙ q)) (λ q. other 6 (omega arith) (omega arith) (sym h ∙ q)), ne_eqb (number_of e) 0 (λ q. omega arith))
+      let five = other 5 (omega arith) (omega arith) in
+      let six = other 6 (omega arith) (omega arith) in
+      rw (
+        ← h,
+        no-index e (λ q. five (sym h ∙ q)) (λ q. six (sym h ∙ q)),
+        ne_eqb (number_of e) 0 (λ q. omega arith),
+      )
     where
       other : (n : ℕ) → 4 < n → n ≢ 9 → panel_number s ≢ n
       other n more not-nine q = elim over-or-alike [

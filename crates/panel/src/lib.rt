@@ -24,8 +24,8 @@ fn check_header(s: &[u8]) -> Result<(), Refusal>
     let within = layout::within_limits(
         TURNOUTS,
         ROUTES,
-        bigendian::get8(s, 5),
-        bigendian::get8(s, 6),
+        bigendian::get(s, 5),
+        bigendian::get(s, 6),
     );
     refuse_if(!within, Refusal::OverLimits)?;
     layout::check_length(s)

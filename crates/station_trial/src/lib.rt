@@ -19,9 +19,9 @@ fn station_of(values: &[u8]) -> Station
     ensures { result ≡ station_of values.now }
 {
     let mut st = layout::station_in(values);
-    st.turnouts = bigendian::get8(values, RECORDS);
-    st.routes = bigendian::get8(values, RECORDS + 1);
-    st.zones = bigendian::get8(values, RECORDS + 2);
+    st.turnouts = bigendian::get(values, RECORDS);
+    st.routes = bigendian::get(values, RECORDS + 1);
+    st.zones = bigendian::get(values, RECORDS + 2);
     st
 }
 

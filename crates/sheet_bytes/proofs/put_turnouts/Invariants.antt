@@ -1,5 +1,5 @@
 -- The invariant says that storing what is left gives the whole.
-use Rattle.std.proofs.Common.{◌≡◌, ◌-◌, ◌≤◌, length, get_or}
+use Rattle.std.proofs.Common.{◌≡◌, length, get_or}
 use Rattle.station.specs.Station.{empty_turnout}
 use Rattle.sheet_bytes.specs.SheetBytes.{turnout_bytes}
 use Rattle.sheet_bytes.proofs.Stores.{with_rest}
@@ -7,10 +7,6 @@ use Rattle.sheet_bytes.proofs.put_turnouts.Given as goal
 
 abbrev pub invariant-loop-i : goal.invariant-loop-i
 invariant-loop-i l =
-    (l.i ≤ l.n)
-    × (length l.s ≡ length l.initial.s)
-    × (with_rest (λ k. turnout_bytes (get_or l.ts k empty_turnout)) 3 8 l.n l.i l.s
-    ≡ with_rest (λ k. turnout_bytes (get_or l.ts k empty_turnout)) 3 8 l.n 0 l.initial.s)
-
-abbrev pub decreases-loop-i : goal.decreases-loop-i
-decreases-loop-i l = l.n - l.i
+    (length l.s ≡ length l.initial.s)
+    × (with_rest (λ k. turnout_bytes (get_or l.ts k empty_turnout)) 3 8 l.i-end l.i l.s
+    ≡ with_rest (λ k. turnout_bytes (get_or l.ts k empty_turnout)) 3 8 l.i-end 0 l.initial.s)

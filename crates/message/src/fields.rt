@@ -11,7 +11,6 @@ ghost use Rattle.message.specs.Fields.{
   id_kept,
   named,
   named_kept,
-  fields_kept,
 };
 ghost use Rattle.message.specs.Kind.{kind_number};
 
@@ -108,11 +107,9 @@ fn id_kept(kind: Kind, id: u32) -> bool
     id != 0
 }
 
-// Whether every field keeps the rule of the message's kind.
-#[tactic(auto, unfolding(crate::specs::Fields::fields_kept))]
+// Whether every field keeps the rule of this kind.
 pub fn fields_kept(kind: Kind, m: Message) -> bool
-    requires { kind_number kind ≡ m.kind }
-    ensures { result ≡ fields_kept m }
+    ensures { result ≡ (id_kept (kind_number kind) m.id && named_kept (named (kind_number kind)) m) }
 {
     id_kept(kind, m.id) & named_kept(kind, m)
 }

@@ -21,8 +21,8 @@ pub fn put_answer(s: &mut [u8], n: u32, code: u8, minutes: u32)
     ensures { s.new ≡ with_answer s.old n code minutes }
 {
     let at = ANSWER * (n as usize);
-    bigendian::put8(s, at, code);
-    bigendian::put32(s, at + 1, minutes);
+    bigendian::put(s, at, code);
+    bigendian::put(s, at + 1, minutes);
 }
 
 // Puts a byte at a place, and says where the next one goes; past the end nothing is stored.

@@ -73,8 +73,8 @@ impl Text<'_> {
             let place = crate::ANSWER * (i as usize);
             self.put_line(
                 i + 1,
-                bigendian::get8(answers, place),
-                bigendian::get32(answers, place + 1),
+                bigendian::get::<u8>(answers, place),
+                bigendian::get::<u32>(answers, place + 1),
             );
         }
     }

@@ -12,7 +12,7 @@ returns-then-code-ne0-clause-put c =
 pub loop-i-preserved : goal.loop-i-preserved
 loop-i-preserved c =
     let l = c.loop-i in
-    let line = rw (c.get32.ensures, c.get8.ensures) at c.put_line.ensures.put in
+    let line = rw (c.get-in-loop-i.ensures, c.get.ensures) at c.put_line.ensures.put in
     record {
       same_buffer = c.put_line.ensures.same_buffer ∙ l.invariant.same_buffer;
       rest =

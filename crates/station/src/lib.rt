@@ -5,7 +5,6 @@
 
 ghost use Rattle.std.specs.Prelude.{◌≡◌, ◌<◌, eqb};
 ghost use Rattle.station.specs.Station.{
-  empty_route,
   empty_station,
   turnout_count,
   route_count,
@@ -149,13 +148,6 @@ pub fn turnouts_of_zone(st: Station, z: u8) -> u64
     ensures { result ≡ zone_turnouts st z }
 {
     observe::turnouts_where(st.turnouts, st.turnout, &IsOfZone { zone: z })
-}
-
-// A route that names nothing.
-pub fn route_none() -> Route
-    ensures { result ≡ empty_route }
-{
-    Route::NONE
 }
 
 // A route; one not below R has every number 0 and names nothing (VALUE-3).

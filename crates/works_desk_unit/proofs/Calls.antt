@@ -14,13 +14,12 @@ use Rattle.station.specs.Station.{turnout_count, zone_count}
 use Rattle.sheet.specs.Sheet.{read_sheet}
 use Rattle.zone.specs.declared.Regime.{Regime}
 use Rattle.zone.specs.declared.Regime.TheVariants.{Held, Clear, Danger}
-use Rattle.zone.specs.Movement.{is_standing}
+use Rattle.zone.specs.Movement.{is_standing, regime_number}
 use Rattle.zone.specs.Trains.{movement_under}
 use Rattle.desk.specs.declared.Desk.{Desk}
 use Rattle.desk.specs.Desk.{zone_at}
 use Rattle.desk.specs.Questions.{movement_answered, work_answered}
 use Rattle.desk_bytes.specs.Encoding.{desk_in, is_desk}
-use Rattle.packed.specs.Packed.{regime_number}
 use Rattle.packed.proofs.Unpacked.{answer-bytes, regime-byte, work-bytes}
 use Rattle.history.specs.Lists.{desk_after}
 use Rattle.works_desk_unit.specs.Unit.{started, unit_applied, unit_movement, unit_work}

@@ -19,8 +19,8 @@ use Rattle.rules.specs.Routes.{concerned}
 use Rattle.rules.specs.Kinds.{Check, ◌gives◌, first, row, rows, no_kind, checks_of, answered, heard_on}
 use Rattle.rules.specs.Kinds.{heard}
 use Rattle.desk.specs.declared.Desk.{Desk}
-use Rattle.desk.specs.Desk.{zone_at, no_such_zone, reached, applied_record}
-use Rattle.desk_bytes.specs.Encoding.{desk_in, is_desk}
+use Rattle.desk.specs.Desk.{Applied, zone_at, no_such_zone, reached, applied_record}
+use Rattle.desk_bytes.specs.Encoding.{is_desk}
 use Rattle.works_desk_unit.specs.Unit.{started, stored, unit_applied}
 
 -- every number of a list of checks fits
@@ -96,21 +96,24 @@ record-fits st d s = go (eqb (length s) 32) refl (eqb (field_number (decoded s))
     go true p false q = rw (p, q, q) (field_fits (decoded s))
     go false p kept q = rw p (lit< tt)
 
+-- an answer that is stored has the code of the desk's
+stored-fits : (s : List ℕ) (a : Applied) → a.code < 256 → (stored s a).code < 256
+unfolding stored
+stored-fits s a fits = go (eqb a.code 0) refl
+  where
+    go : (taken : Bool) → eqb a.code 0 ≡ taken → (stored s a).code < 256
+    go true p = rw p (lit< tt)
+    go false p = rw p fits
+
 -- a record heard by the unit of an accepted sheet
 pub answer-fits :
     (sheet s r : List ℕ) → (read_sheet sheet).code ≡ 0 → (unit_applied sheet s r).code < 256
-unfolding unit_applied started stored
-answer-fits sheet s r good =
-    go (is_desk s) refl (eqb (applied_record (read_sheet sheet).station (desk_in s) r).code 0) refl
+unfolding unit_applied started
+answer-fits sheet s r good = go (is_desk s) refl
   where
     accepted : eqb (read_sheet sheet).code 0 ≡ true
     accepted = eq-eqb (read_sheet sheet).code 0 good
 
-    go :
-        (told : Bool) → is_desk s ≡ told
-        → (taken : Bool)
-        → eqb (applied_record (read_sheet sheet).station (desk_in s) r).code 0 ≡ taken
-        → (unit_applied sheet s r).code < 256
-    go true p true q = rw (accepted, p, q) (lit< tt)
-    go true p false q = rw (accepted, p, q) (record-fits (read_sheet sheet).station (desk_in s) r)
-    go false p taken q = rw (accepted, p) (lit< tt)
+    go : (told : Bool) → is_desk s ≡ told → (unit_applied sheet s r).code < 256
+    go true p = rw (accepted, p) (stored-fits s _ (record-fits (read_sheet sheet).station _ r))
+    go false p = rw (accepted, p) (lit< tt)

@@ -2,31 +2,24 @@
 -- record is heard by the zone in its place, and storing that zone is storing the desk.
 use mathlib.Core.Bool.{Bool, true, false}
 use mathlib.Core.List.{List}
-use mathlib.Core.Path.{◌≡◌, refl}
+use mathlib.Core.Path.{◌≡◌, refl, sym}
 use Prim.Native.Nat.{ℕ, ◌<◌}
 use native.Mathlib.Omega.{arith}
 use lib.Dec.{eqb}
-use borrow.Author.Tests.{eqb-false, eq-eqb, ne_eqb}
+use borrow.Author.Tests.{eqb-false, eq-eqb}
 use Rattle.message.specs.declared.Message.{Message}
+use Rattle.refusals.specs.declared.Refusal.{Refusal}
+use Rattle.refusals.specs.Numbers.{number_of}
 use Rattle.message.specs.Record.{accepted, refused, read_record}
-use Rattle.message.proofs.RoundTrips.{refused-by}
+use Rattle.message.proofs.Numbers.{not_zero}
 use Rattle.station.specs.declared.Station.{Station}
-use Rattle.sheet.specs.declared.Sheet.{Sheet}
 use Rattle.sheet.specs.Sheet.{read_sheet}
-use Rattle.zone.specs.declared.Answer.{Answer}
+use Rattle.zone.specs.Zone.{Answer}
 use Rattle.desk.specs.Desk.{zone_at, refused_by, put_back, applied_record, zone_place, zone_hears}
 use Rattle.desk.proofs.InPlace.{reached-in-place}
 use Rattle.desk_bytes.specs.Encoding.{desk_in, is_desk, stored_zone}
 use Rattle.desk_bytes.proofs.ZonePlaces.{zone-stored}
-use Rattle.works_desk_unit.specs.Unit.{start_number, started, stored}
-
--- what the two calls at the start of a record or a question have answered
-pub started-by :
-    (sheet desk : List ℕ) {read : Sheet} {code : ℕ} → read ≡ read_sheet sheet
-    → code ≡ start_number read.code desk
-    → started sheet desk ≡ record { code = code; index = read.index; station = read.station }
-unfolding started
-started-by sheet desk as_read as-told = rw (as-told, as_read)
+use Rattle.works_desk_unit.specs.Unit.{started, stored, refused_unit, unit_applied}
 
 pub started-desk : (sheet desk : List ℕ) → (started sheet desk).code ≡ 0 → is_desk desk ≡ true
 unfolding started
@@ -49,10 +42,19 @@ record-heard st s r m read = rw (← read) (reached-in-place st (desk_in s) m)
 
 -- a record that is refused by a number
 pub record-refused :
-    (st : Station) (s r : List ℕ) (number : ℕ) → refused number ≡ read_record r
-    → applied_record st (desk_in s) r ≡ refused_by (desk_in s) number
+    (st : Station) (s r : List ℕ) (e : Refusal) → refused (number_of e) ≡ read_record r
+    → applied_record st (desk_in s) r ≡ refused_by (desk_in s) (number_of e)
 unfolding applied_record
-record-refused st s r number read = rw (← read, ne_eqb number 0 (refused-by r number read))
+record-refused st s r e read = rw (← read, not_zero e)
+
+-- a record that the desk refuses, as the unit of that station answers it
+pub unit-refused :
+    (sheet s r : List ℕ) (st : Station) (e : Refusal) → 0 ≡ (started sheet s).code
+    → st ≡ (started sheet s).station → number_of e ≡ (applied_record st (desk_in s) r).code
+    → refused_unit s (number_of e) ≡ unit_applied sheet s r
+unfolding unit_applied stored
+unit-refused sheet s r st e zero same code =
+    rw (eq-eqb (started sheet s).code 0 (sym zero), ← same, ← code, not_zero e)
 
 -- an accepted answer of the zone in place k, stored
 pub zone-answered :

@@ -22,11 +22,10 @@ use Rattle.message.proofs.EachKind.{◌also◌, each-kind}
 use Rattle.station.specs.declared.Station.{Station}
 use Rattle.zone.specs.declared.Work.{Work}
 use Rattle.zone.specs.declared.Work.TheVariants.{NoWork, Asked, Agreed}
-use Rattle.zone.specs.declared.Movement.{Movement}
-use Rattle.zone.specs.declared.Movement.TheVariants.{NoMovement, Standing}
+use Rattle.std.specs.Prelude.{None, Some}
 use Rattle.zone.specs.declared.Zone.{Zone}
 use Rattle.zone.specs.Work.{agreed_from, opened_to, shut_to, restored_of}
-use Rattle.zone.specs.Movement.{movement_for, cleared_at, keyed_at, ordered_as}
+use Rattle.zone.specs.Movement.{Movement, movement_for, cleared_at, keyed_at, ordered_as}
 use Rattle.rules.specs.Clearance.{is_efficient}
 use Rattle.zone.specs.Zone.{fresh_zone}
 use Rattle.rules.specs.Kinds.{first, row, rows, checks_of, no_kind, work_after, moved, zone_after}
@@ -112,8 +111,8 @@ restored-typed (Agreed g) s fits = record {
 cleared-typed :
     (v : Movement) (n : ℕ) (efficient : Bool) → TypedMovement v →
     TypedMovement (cleared_at v n efficient)
-cleared-typed NoMovement n efficient fits = fits
-cleared-typed (Standing p) n efficient fits = record {
+cleared-typed None n efficient fits = fits
+cleared-typed (Some p) n efficient fits = record {
   train = fits.train;
   cleared = or_lt 64 p.cleared (single n) fits.cleared (single-lt n);
   efficient =
@@ -126,8 +125,8 @@ cleared-typed (Standing p) n efficient fits = record {
     one false = lit< tt
 
 ordered-typed : (v : Movement) (order : ℕ) → TypedMovement v → TypedMovement (ordered_as v order)
-ordered-typed NoMovement order fits = fits
-ordered-typed (Standing p) order fits = record {
+ordered-typed None order fits = fits
+ordered-typed (Some p) order fits = record {
   train = fits.train;
   cleared = fits.cleared;
   efficient = fits.efficient;
@@ -135,8 +134,8 @@ ordered-typed (Standing p) order fits = record {
 }
 
 keyed-typed : (v : Movement) (n : ℕ) → TypedMovement v → TypedMovement (keyed_at v n)
-keyed-typed NoMovement n fits = fits
-keyed-typed (Standing p) n fits = record {
+keyed-typed None n fits = fits
+keyed-typed (Some p) n fits = record {
   train = fits.train;
   cleared = fits.cleared;
   efficient = fits.efficient;
@@ -189,8 +188,8 @@ after-typed st z m told fits checks =
         also (λ none.
         let typed = ordered-typed its m.d0 its-typed in
         (fits.work, becomes (ordered_as its m.d0) typed))
-        also (λ none. (fits.work, becomes NoMovement no-movement-typed))
-        also (λ none. (fits.work, becomes NoMovement no-movement-typed))
+        also (λ none. (fits.work, becomes None no-movement-typed))
+        also (λ none. (fits.work, becomes None no-movement-typed))
         also (λ none. (restored-typed z.work m.a fits.work, fits.movement))
         also (λ none. (no-work-typed, fits.movement))
         also (λ none. (fits.work, fits.movement))

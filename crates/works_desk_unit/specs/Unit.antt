@@ -2,15 +2,13 @@
 -- lends at each call. A record or a question is refused by the sheet's number, then by 61 for bytes
 -- that no desk encodes to (also bytes of another length), then as the desk refuses it; a fresh desk
 -- by 61 for a buffer of another length. A refusal leaves the bytes as they were, and has 0 minutes.
-use Rattle.std.specs.Prelude.{cond, false, List, ℕ, eqb, length}
+use Rattle.std.specs.Prelude.{cond, false, List, ℕ, eqb, length, Result, Ok, Err}
+use Rattle.refusals.specs.declared.Refusal.{Refusal}
+use Rattle.refusals.specs.Numbers.{number_of}
 use Rattle.message.specs.Record.{WriteAnswer}
-use Rattle.sheet.specs.declared.Sheet.{Sheet}
-use Rattle.sheet.specs.Sheet.{read_sheet}
-use Rattle.desk.specs.declared.Applied.{Applied}
-use Rattle.desk.specs.declared.MovementAnswer.{MovementAnswer}
-use Rattle.desk.specs.declared.WorkAnswer.{WorkAnswer}
-use Rattle.desk.specs.Desk.{fresh_desk, applied_record}
-use Rattle.desk.specs.Questions.{movement_refused, movement_answered, work_answered}
+use Rattle.sheet.specs.Sheet.{Sheet, read_sheet}
+use Rattle.desk.specs.Desk.{Applied, fresh_desk, applied_record}
+use Rattle.desk.specs.Questions.{MovementAnswer, WorkAnswer, movement_refused, movement_answered, work_answered}
 use Rattle.desk_bytes.specs.Encoding.{desk_bytes, desk_in, is_desk}
 use Rattle.packed.specs.Packed.{answer_packed}
 
@@ -42,6 +40,11 @@ pub record UnitAnswer : Type 0 where
 -- a refusal, MINUTES-2: "every other answer has 0" minutes
 abbrev pub refused_unit : List ℕ → ℕ → UnitAnswer
 refused_unit desk number = record { code = number; minutes = 0; bytes = desk }
+
+-- the unit's answer that its bytes then, and the minutes or a refusal, stand for
+abbrev pub unit_answer_of : List ℕ → Result ℕ Refusal → UnitAnswer
+unit_answer_of desk (Ok minutes) = record { code = 0; minutes = minutes; bytes = desk }
+unit_answer_of desk (Err e) = refused_unit desk (number_of e)
 
 -- UNIT-3: the answer of the desk, stored where it accepts
 unfoldable pub stored : List ℕ → Applied → UnitAnswer

@@ -6,80 +6,67 @@
 // zone's answers go by its own messages alone.
 #![tactic(auto)]
 
-ghost use Rattle.std.specs.Prelude.{◌≡◌};
+ghost use Rattle.std.specs.Prelude.{◌≡◌, IfOk};
+ghost use Rattle.refusals.specs.Numbers.{code_of};
+ghost use Rattle.desk.specs.Questions.{movement_answer_of, work_answer_of};
 ghost use Rattle.packed.specs.Packed.{movement_packed, work_packed};
-ghost use Rattle.works_desk_unit.specs.Unit.{unit_fresh, start_number, unit_applied, called, unit_movement, unit_work};
+ghost use Rattle.works_desk_unit.specs.Unit.{
+  unit_fresh,
+  started,
+  unit_applied,
+  unit_answer_of,
+  called,
+  unit_movement,
+  unit_work,
+};
 
-use desk::{Desk, MovementAnswer, WorkAnswer};
-use message::Reading;
-
-// The number that refuses bytes that no desk encodes to (UNIT-2).
-pub const NOT_A_DESK: u8 = 61;
-
-// The answer to a record.
-#[derive(Clone, Copy)]
-pub struct Reply {
-    pub code: u8,
-    pub minutes: u32,
-}
-
-// A refusal has no minutes (MINUTES-2).
-fn refused(code: u8) -> Reply
-    ensures { result ≡ record { code = code; minutes = 0 } }
-{
-    Reply { code, minutes: 0 }
-}
+use desk::{Desk, MovementState};
+use refusals::{Refusal, refuse_if};
+use station::Station;
 
 // Stores the fresh desk. Refused by 61 for a buffer of another length than a desk's (UNIT-6).
+#[tactic(auto, unfolding(crate::specs::Unit::unit_fresh))]
+fn fresh(desk: &mut [u8]) -> Result<(), Refusal>
+    ensures { record { code = code_of result; bytes = desk.new } ≡ unit_fresh desk.old }
+{
+    if desk.len() != desk_bytes::LENGTH {
+        return Err(Refusal::NotADesk);
+    }
+    desk_bytes::encode(Desk::fresh(), desk);
+    Ok(())
+}
+
+// The same, by its number.
 pub fn unit_fresh(desk: &mut [u8]) -> u8
     ensures { record { code = result; bytes = desk.new } ≡ unit_fresh desk.old }
 {
-    if desk.len() != desk_bytes::LENGTH {
-        return NOT_A_DESK;
-    }
-    desk_bytes::encode(Desk::fresh(), desk);
-    0
+    refusals::code(fresh(desk))
 }
 
-// The number that refuses a sheet, else 61 for bytes that are no desk's, else 0 (UNIT-3, UNIT-4).
-fn start_code(code: u8, desk: &[u8]) -> u8
-    ensures { result ≡ start_number code desk.now }
+// The sheet's station. Refused by the sheet's number, then by 61 for bytes that are no desk's (UNIT-3, UNIT-4).
+#[tactic(auto, using(message::proofs::Numbers::not_zero), unfolding(crate::specs::Unit::started))]
+fn start(sheet: &[u8], desk: &[u8]) -> Result<Station, Refusal>
+    ensures number { code_of result ≡ (started sheet.now desk.now).code }
+    ensures station { IfOk result (λ st. st ≡ (started sheet.now desk.now).station) }
 {
-    if code != 0 {
-        return code;
-    }
-    if !desk_bytes::is_desk(desk) {
-        return NOT_A_DESK;
-    }
-    0
+    let st = sheet::read_sheet(sheet)?;
+    refuse_if(!desk_bytes::is_desk(desk), Refusal::NotADesk)?;
+    Ok(st)
 }
 
-// Hears a record; where it is accepted, stores its zone then. Refused by the sheet's number, by 61, then as the desk
-// refuses the record (UNIT-3).
-fn apply(sheet: &[u8], desk: &mut [u8], record: &[u8]) -> Reply
-    ensures { record { code = result.code; minutes = result.minutes; bytes = desk.new }
-        ≡ unit_applied sheet.now desk.old «record».now }
+// Hears a record, and gives the minutes; where it is accepted, stores its zone then. Refused by the sheet's number, by
+// 61, then as the desk refuses the record (UNIT-3).
+#[tactic(auto, using(message::proofs::Numbers::not_zero), unfolding(crate::specs::Unit::unit_applied))]
+fn apply(sheet: &[u8], desk: &mut [u8], record: &[u8]) -> Result<u32, Refusal>
+    ensures { unit_answer_of desk.new result ≡ unit_applied sheet.now desk.old «record».now }
 {
-    let read = sheet::read_sheet(sheet);
-    let start = start_code(read.code, desk);
-    if start != 0 {
-        return refused(start);
-    }
-    let reading = message::read_record(record);
-    let Reading::Accepted(m) = reading else {
-        return refused(message::reading_code(reading));
-    };
-    let place = desk::zone_place(read.station, m);
+    let st = start(sheet, desk)?;
+    let m = message::read_record(record)?;
+    let place = desk::zone_place(st, m);
     let z = desk_bytes::zone_at(desk, place);
-    let a = desk::zone_hears(read.station, z, m);
-    if a.code != 0 {
-        return refused(a.code);
-    }
-    desk_bytes::put_zone_at(a.zone, desk, place);
-    Reply {
-        code: 0,
-        minutes: a.minutes,
-    }
+    let heard = desk::zone_hears(st, z, m)?;
+    desk_bytes::put_zone_at(heard.zone, desk, place);
+    Ok(heard.minutes)
 }
 
 // Hears a record: the code in the lowest byte, the minutes above it (UNIT-3).
@@ -87,19 +74,19 @@ pub fn unit_apply(sheet: &[u8], desk: &mut [u8], record: &[u8]) -> u64
     ensures { record { answer = result; bytes = desk.new }
         ≡ called (unit_applied sheet.now desk.old «record».now) }
 {
-    let a = apply(sheet, desk, record);
-    packed::answer_packed(a.code, a.minutes)
+    match apply(sheet, desk, record) {
+        Ok(minutes) => packed::answer_packed(0, minutes),
+        // a refusal has no minutes (MINUTES-2)
+        Err(refusal) => packed::answer_packed(u8::from(refusal), 0),
+    }
 }
 
-fn movement(sheet: &[u8], desk: &[u8], zone: u8, train: u32) -> MovementAnswer
-    ensures { result ≡ unit_movement sheet.now desk.now zone train }
+#[tactic(auto, using(message::proofs::Numbers::not_zero), unfolding(crate::specs::Unit::unit_movement))]
+fn movement(sheet: &[u8], desk: &[u8], zone: u8, train: u32) -> Result<MovementState, Refusal>
+    ensures { movement_answer_of result ≡ unit_movement sheet.now desk.now zone train }
 {
-    let read = sheet::read_sheet(sheet);
-    let start = start_code(read.code, desk);
-    if start != 0 {
-        return desk::movement_refused(start);
-    }
-    desk::query_movement(read.station, desk_bytes::decode(desk), zone, train)
+    let st = start(sheet, desk)?;
+    desk::query_movement(st, desk_bytes::decode(desk), zone, train)
 }
 
 // The movement question: the code, the regime, the lowest turnout lacking a clearance, how many lack one, a byte each
@@ -110,18 +97,12 @@ pub fn unit_movement(sheet: &[u8], desk: &[u8], zone: u8, train: u32) -> u64
     packed::movement_packed(movement(sheet, desk, zone, train))
 }
 
-fn work(sheet: &[u8], desk: &[u8], turnout: u8) -> WorkAnswer
-    ensures { result ≡ unit_work sheet.now desk.now turnout }
+#[tactic(auto, using(message::proofs::Numbers::not_zero), unfolding(crate::specs::Unit::unit_work))]
+fn work(sheet: &[u8], desk: &[u8], turnout: u8) -> Result<bool, Refusal>
+    ensures { work_answer_of result ≡ unit_work sheet.now desk.now turnout }
 {
-    let read = sheet::read_sheet(sheet);
-    let start = start_code(read.code, desk);
-    if start != 0 {
-        return WorkAnswer {
-            code: start,
-            yes: false,
-        };
-    }
-    desk::query_work(read.station, desk_bytes::decode(desk), turnout)
+    let st = start(sheet, desk)?;
+    desk::query_work(st, desk_bytes::decode(desk), turnout)
 }
 
 // The work question: the code, and 256 if the turnout is open to work (UNIT-4).

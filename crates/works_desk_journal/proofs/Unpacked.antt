@@ -9,7 +9,7 @@ use lib.Dec.{eqb}
 use borrow.Author.Tests.{eqb-true, eq-eqb}
 use Rattle.packing.specs.Bytes.{above, byte_of}
 use Rattle.packing.proofs.Bytes.{lowest-byte, above-next, two_bytes}
-use Rattle.sheet.specs.declared.Finding.{Finding}
+use Rattle.sheet.specs.Sheet.{Finding}
 use Rattle.journal.specs.Journal.{record_place}
 use Rattle.works_desk_journal.specs.Packed.{record_packed}
 use Rattle.works_desk_journal.specs.Unpacked.{FindingBytes, RecordBytes}

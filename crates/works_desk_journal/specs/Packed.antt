@@ -2,9 +2,7 @@
 -- it.
 use Rattle.std.specs.Prelude.{cond, List, ℕ, ◌*◌, eqb}
 use Rattle.packing.specs.Bytes.{two_packed}
-use Rattle.sheet.specs.declared.Finding.{Finding}
-use Rattle.sheet.specs.declared.Sheet.{Sheet}
-use Rattle.sheet.specs.Sheet.{finding_of}
+use Rattle.sheet.specs.Sheet.{Finding, Sheet, finding_of}
 use Rattle.sheet_writer.specs.Writer.{SheetCopied}
 use Rattle.journal.specs.Journal.{record_place}
 

@@ -1,7 +1,7 @@
 -- Packed answers taken apart: where each value stands in the number.
 use Rattle.std.specs.Prelude.{false, ◌≡◌, ℕ, eqb}
 use Rattle.packing.specs.Bytes.{above, byte_of}
-use Rattle.sheet.specs.declared.Finding.{Finding}
+use Rattle.sheet.specs.Sheet.{Finding}
 use Rattle.journal.specs.Journal.{record_place}
 use Rattle.works_desk_journal.specs.Packed.{finding_packed, record_packed}
 

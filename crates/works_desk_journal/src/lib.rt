@@ -5,22 +5,30 @@
 
 ghost use Rattle.std.specs.Prelude.{◌≡◌};
 ghost use Rattle.message.specs.Record.{read_record, written};
-ghost use Rattle.sheet.specs.Sheet.{read_sheet};
+ghost use Rattle.sheet.specs.Sheet.{read_sheet, found_of};
 ghost use Rattle.journal.specs.Journal.{journal_number, counted, record_number, added};
 ghost use Rattle.replay.specs.Replay.{replayed, movement_replayed, work_replayed};
 ghost use Rattle.packed.specs.Packed.{movement_packed, work_packed};
 ghost use Rattle.sheet_writer.specs.Writer.{copied_sheet};
-ghost use Rattle.works_desk_journal.specs.Packed.{sheet_packed, copy_packed, record_packed};
+ghost use Rattle.works_desk_journal.specs.Packed.{finding_packed, sheet_packed, copy_packed, record_packed};
 
 use message::Message;
+use refusals::Refusal;
+
+// The code of an answer, and 256 times the index of the bad record that it names.
+fn finding_packed<T: Copy>(answer: Result<T, Refusal>) -> u32
+    ensures { result ≡ finding_packed (found_of answer) }
+{
+    let index = answer.err().map_or(0, Refusal::index);
+    packing::two_packed(refusals::code(answer), index)
+}
 
 // Reads a sheet: its code, and 256 times the index of the bad record (SHEET-11).
 #[unsafe(no_mangle)]
 pub extern "C" fn desk_sheet(sheet: &[u8]) -> u32
     ensures { result ≡ sheet_packed (read_sheet sheet.now) }
 {
-    let read = sheet::read_sheet(sheet);
-    packing::two_packed(read.code, read.index)
+    finding_packed(sheet::read_sheet(sheet))
 }
 
 // Reads a sheet and writes it into the buffer: the code, and 256 times the index of the bad record (WRITE-5). It never
@@ -30,8 +38,7 @@ pub extern "C" fn desk_copy_sheet(sheet: &[u8], buffer: &mut [u8]) -> u32
     ensures { record { answer = result; bytes = buffer.new }
         ≡ copy_packed (copied_sheet sheet.now buffer.old) }
 {
-    let found = sheet_writer::copy_sheet(sheet, buffer);
-    packing::two_packed(found.code, found.index)
+    finding_packed(sheet_writer::copy_sheet(sheet, buffer))
 }
 
 // Reads a record: 0, or the number that refuses it (RECORD-4).
@@ -39,7 +46,7 @@ pub extern "C" fn desk_copy_sheet(sheet: &[u8], buffer: &mut [u8]) -> u32
 pub extern "C" fn desk_record(record: &[u8]) -> u8
     ensures { result ≡ (read_record «record».now).code }
 {
-    message::reading_code(message::read_record(record))
+    refusals::code(message::read_record(record))
 }
 
 // Writes a message as a record into the buffer (RECORD-5).
@@ -89,7 +96,7 @@ pub extern "C" fn desk_write_record(
         d4,
         d5,
     };
-    message::write_record(m, buffer)
+    refusals::code(message::write_record(m, buffer))
 }
 
 // Hears every record of a journal and stores each one's code and minutes (REPLAY-1, REPLAY-2).
@@ -98,7 +105,7 @@ pub extern "C" fn desk_replay(sheet: &[u8], journal: &[u8], answers: &mut [u8]) 
     ensures { record { code = result; bytes = answers.new }
         ≡ replayed sheet.now journal.now answers.old }
 {
-    replay::replay(sheet, journal, answers)
+    refusals::code(replay::replay(sheet, journal, answers))
 }
 
 // The movement question after a journal: the code, the regime, the lowest turnout lacking a clearance, how many lack
@@ -123,7 +130,7 @@ pub extern "C" fn desk_work(sheet: &[u8], journal: &[u8], turnout: u8) -> u32
 pub extern "C" fn desk_journal_check(journal: &[u8]) -> u8
     ensures { result ≡ journal_number journal.now }
 {
-    journal::check(journal)
+    refusals::code(journal::check(journal))
 }
 
 // How many records a journal holds.
@@ -139,12 +146,10 @@ pub extern "C" fn desk_journal_count(journal: &[u8]) -> u32
 pub extern "C" fn desk_journal_record(journal: &[u8], n: u32) -> u64
     ensures { result ≡ record_packed (record_number journal.now n) n }
 {
-    let mut code: u8 = 0;
-    journal::record_at(journal, n, &mut code);
-    if code != 0 {
-        return code as u64;
+    match journal::record_at(journal, n) {
+        Ok(_) => 256 * (16 + 32 * u64::from(n)),
+        Err(refusal) => u64::from(u8::from(refusal)),
     }
-    256 * (16 + 32 * (n as u64))
 }
 
 // Adds a record to a journal (JOURNAL-4).
@@ -153,5 +158,5 @@ pub extern "C" fn desk_journal_add(journal: &mut [u8], record: &[u8]) -> u8
     ensures { record { code = result; bytes = journal.new }
         ≡ added journal.old «record».now }
 {
-    journal::add(journal, record)
+    refusals::code(journal::add(journal, record))
 }

@@ -16,6 +16,6 @@ pub fn put_text(sheet: &[u8], journal: &[u8], out: &mut [u8]) -> usize
         ≡ put_all out.old 0 (printed sheet.now journal.now) }
 {
     let mut answers = [0u8; 5120];
-    let code = replay::replay(sheet, journal, &mut answers);
-    report::text(code, &answers, journal::count(journal), out)
+    let replayed = replay::replay(sheet, journal, &mut answers);
+    report::text(refusals::code(replayed), &answers, journal::count(journal), out)
 }

@@ -14,4 +14,5 @@ returns c =
     rw (
       c.text.ensures,
       c.count.ensures,
-    ) (ap text-of c.replay-code.ensures)
+      c.code.ensures,
+    ) (ap text-of c.replay-replayed.ensures)

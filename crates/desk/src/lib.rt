@@ -117,7 +117,7 @@ fn reach(st: Station, d: Desk, m: Message) -> Result<After, Refusal>
 }
 
 // A message heard by the desk (HEAR-1).
-#[tactic(auto, using(message::proofs::Numbers::not_zero), unfolding(crate::specs::Desk::applied))]
+#[tactic(auto, using(refusals::proofs::Numbers::not_zero), unfolding(crate::specs::Desk::applied))]
 pub fn apply(st: Station, d: Desk, m: Message) -> Result<After, Refusal>
     ensures { applied_of d result ≡ applied st d m }
 {
@@ -126,7 +126,7 @@ pub fn apply(st: Station, d: Desk, m: Message) -> Result<After, Refusal>
 }
 
 // Bytes heard by the desk as a record (HEAR-1, FORM-1).
-#[tactic(auto, using(message::proofs::Numbers::not_zero), unfolding(crate::specs::Desk::applied_record))]
+#[tactic(auto, using(refusals::proofs::Numbers::not_zero), unfolding(crate::specs::Desk::applied_record))]
 pub fn apply_record(st: Station, d: Desk, s: &[u8]) -> Result<After, Refusal>
     ensures { applied_of d result ≡ applied_record st d s.now }
 {

@@ -1,25 +1,16 @@
--- What a refusal's number says: it is never 0, and one that is not a record's names no index. And a
--- header's checks up to the length, before those that come after them.
+-- A header's checks up to the length, before those that come after them.
 use mathlib.Core.Bool.{Bool, true, false, cond, not}
 use mathlib.Core.List.{List}
-use mathlib.Core.Logic.{◌≢◌}
 use mathlib.Core.Path.{◌≡◌, refl}
 use Prim.Native.Nat.{ℕ, ◌≤◌}
 use native.Mathlib.Omega.{arith}
 use lib.Dec.{ltb}
 use lib.ListN.{length}
 use Rattle.refusals.specs.declared.Refusal.{Refusal}
-use Rattle.refusals.specs.Numbers.{number_of, index_of}
+use Rattle.refusals.specs.Numbers.{number_of}
+use Rattle.refusals.proofs.Numbers.{some-number}
 use Rattle.layout.specs.Layout.{has_mark, version, version_kept, count_p, count_r, count_z}
 use Rattle.layout.specs.Layout.{counts_kept, before_length}
-
--- the number of a refusal is not 0
-pub some-number : (e : Refusal) → 1 ≤ number_of e
-some-number e = grind arith
-
--- and names an index by 5 and 6 alone
-pub no-index : (e : Refusal) → number_of e ≢ 5 → number_of e ≢ 6 → index_of e ≡ 0
-no-index e = grind arith
 
 -- the checks before the length pass: the later ones decide
 pub passes : (s : List ℕ) (later : ℕ) → before_length s 0 ≡ 0 → before_length s later ≡ later

@@ -15,7 +15,7 @@ use borrow.Author.Tests.{eq-eqb, eqb-true}
 use Rattle.bigendian.proofs.Numbers.{value-bytes}
 use Rattle.bigendian.proofs.Places.{bytes_at-all, bytes-number, sets-whole}
 use Rattle.bigendian.specs.BigEndian.{Bytes, bytes_at}
-use Rattle.message.proofs.Numbers.{not_zero}
+use Rattle.refusals.proofs.Numbers.{not_zero}
 use Rattle.message.specs.declared.Message.{Message}
 use Rattle.message.specs.Fields.{details, field_number}
 use Rattle.message.specs.Record.{decoded, encoded, head_bytes, empty_message, ReadAnswer}

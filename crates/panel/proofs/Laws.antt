@@ -15,7 +15,7 @@ use Rattle.partner_records.specs.PartnerRecords.{renumbered}
 use Rattle.std.specs.Prelude.{Err}
 use Rattle.refusals.specs.declared.Refusal.{Refusal}
 use Rattle.refusals.specs.Numbers.{number_of}
-use Rattle.layout.proofs.Refused.{some-number, no-index}
+use Rattle.refusals.proofs.Numbers.{some-number, no-index}
 use Rattle.sheet.specs.Sheet.{refused_sheet, sheet_of, after_header, read_sheet}
 use Rattle.layout.proofs.Counts.{counts-in-range, counts-kept}
 use Rattle.sheet.proofs.Accepted.{headed, station-of}

@@ -18,7 +18,7 @@ use Rattle.std.specs.Prelude.{Result, Ok, Err}
 use Rattle.refusals.specs.declared.Refusal.{Refusal}
 use Rattle.refusals.specs.Numbers.{number_of}
 use Rattle.layout.proofs.Header.{header-most}
-use Rattle.layout.proofs.Refused.{some-number, no-index}
+use Rattle.refusals.proofs.Numbers.{some-number, no-index}
 use Rattle.sheet.proofs.Judging.{routes-finding, by-found, found-alone, numbered-alone}
 
 -- a header with a fault

@@ -136,7 +136,8 @@ fn put_pair(s: &mut [u8], input: &[u8], at: usize) -> usize
     value.next
 }
 
-// Stores the damage from a place on, at most 16 pairs; the place after it.
+// Stores the damage from a place on, at most 16 pairs; the place after it. Not by `repeated`: the step lends the buffer,
+// so that it is no `Fn`.
 pub fn put_pairs(s: &mut [u8], input: &[u8], at: usize) -> usize
     ensures { record { place = result; bytes = s.new }
         ≡ with_pairs s.old input.now at }

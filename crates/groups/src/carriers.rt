@@ -1,5 +1,5 @@
 // The turnouts that carry a group's number, 0 to 31, of so many turnouts with their records (SHEET-3 and VALUE-2 of
-// docs/RULES.md).
+// docs/RULES.md). A count and 64 records, and no slice: the rules speak of a count that may be over its limit (VALUE-1).
 ghost use Rattle.std.specs.Prelude.{◌≡◌, eqb};
 ghost use Rattle.sets.specs.Table.{places};
 ghost use Rattle.groups.specs.Groups.{carriers_among, group_sets, tied_in, tied_among};

@@ -36,7 +36,8 @@ pub struct Message {
 }
 
 // Refuses a message that does not keep the field rules: by 11 for its kind, then by 13 for a field (RECORD-4).
-#[tactic(auto, using(crate::proofs::Numbers::is_number), unfolding(crate::specs::Fields::field_number, crate::specs::Fields::fields_kept))]
+#[tactic(auto, using(crate::proofs::Numbers::is_number), // the kinds are the numbers from 1 to 13
+unfolding(crate::specs::Fields::field_number, crate::specs::Fields::fields_kept))]
 pub fn check_fields(m: Message) -> Result<(), Refusal>
     ensures { code_of result ≡ field_number m }
 {

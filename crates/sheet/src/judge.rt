@@ -123,7 +123,8 @@ fn first_bad_turnout(version: u16, p: u8, z: u8, ts: [Turnout; 64]) -> Option<u8
     group_records::first_bad_turnout(p, z, ts)
 }
 
-// Judges these turnouts: the first bad one refuses them (SHEET-11).
+// Judges these turnouts: the first bad one refuses them (SHEET-11). Here and below a count and 64 records, and no slice:
+// `bad_turnout_by` and `meant` speak of a count that may be over its limit (VALUE-1).
 pub fn judge_turnouts(version: u16, p: u8, z: u8, ts: [Turnout; 64]) -> Result<(), Refusal>
     ensures { found_of result ≡ turnouts_found version (turnouts_alone p z ts) }
 {

@@ -14,7 +14,7 @@ pub const SHEET: usize = 50;
 
 // The first n bytes; all of them if there are fewer.
 pub fn first<'a>(s: &'a [u8], n: u16) -> &'a [u8] {
-    s.get(..n as usize).unwrap_or(s)
+    s.get(..usize::from(n)).unwrap_or(s)
 }
 
 // A sheet: the first of these bytes, as many as its length says.
@@ -94,7 +94,7 @@ impl<'a> Bench<'a> {
         if k == 0 {
             return record;
         }
-        let part = journal::part_at(self.journal, (k - 1) as u32);
+        let part = journal::part_at(self.journal, u32::from(k - 1));
         for (to, from) in record.iter_mut().zip(part) {
             *to = *from;
         }
@@ -105,7 +105,7 @@ impl<'a> Bench<'a> {
     pub fn fresh_tried(&mut self, rt: &impl Print, row: &mut Row<'_>) -> io::Result<()> {
         let n = row.number();
         let before = self.desk;
-        if let Some(desk) = self.desk.get_mut(..n as usize) {
+        if let Some(desk) = self.desk.get_mut(..usize::from(n)) {
             print!(rt; " {}", works_desk_unit::unit_fresh(desk))?;
         }
         write_same(rt, &self.desk, &before)?;
@@ -130,8 +130,8 @@ impl<'a> Bench<'a> {
 
     // Kind 3: the place and how many.
     pub fn bytes_written(&self, rt: &impl Print, row: &mut Row<'_>) -> io::Result<()> {
-        let place = row.number() as usize;
-        let n = row.number() as usize;
+        let place = usize::from(row.number());
+        let n = usize::from(row.number());
         for i in place..place + n {
             print!(rt; " {}", byte_at(&self.desk, i))?;
         }
@@ -142,7 +142,7 @@ impl<'a> Bench<'a> {
     // Written last is whether the copy is changed.
     pub fn copy_tried(&self, rt: &impl Print, row: &mut Row<'_>) -> io::Result<()> {
         let sheet = first(self.first.bytes, row.number());
-        let length = row.number() as usize;
+        let length = usize::from(row.number());
         let record = self.record::<33>(row.number());
         let n = row.number();
         let before = self.damaged(row);

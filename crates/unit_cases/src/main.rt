@@ -18,136 +18,78 @@
 // 7, 8 and 9 are 2, 5 and 6 on the second station, 10, 11 and 12 on the third.
 #![tactic(auto)]
 
-mod hearing;
-mod parts;
+mod asked;
+mod bench;
 mod questions;
 
-use case_rows::number_at;
-use parts::{ROOM, SHEET};
+use asked::Kind;
+use bench::{Bench, ROOM, SHEET, Sheet};
+use case_rows::Row;
 use std::io;
 use std::io::Read;
 
-// Tries the row that has its kind before a place; the place after it. A kind that is none writes nothing.
-fn row_tried(
-    rt: &impl Print,
-    sheet: &[u8],
-    second: &[u8],
-    third: &[u8],
-    journal: &[u8],
-    desk: &mut [u8],
-    input: &[u8],
-    kind: u16,
-    at: usize,
-) -> io::Result<usize> {
+// Tries the row, after its name. A kind that is none writes nothing.
+fn kind_tried(rt: &impl Print, bench: &mut Bench<'_>, row: &mut Row<'_>) -> io::Result<()> {
+    let Ok(kind) = Kind::try_from(row.number()) else {
+        return Ok(());
+    };
     match kind {
-        1 => hearing::fresh_tried(rt, desk, input, at),
-        2 => hearing::record_tried(rt, parts::first(sheet, SHEET), journal, desk, input, at),
-        3 => questions::bytes_tried(rt, desk, input, at),
-        4 => hearing::copy_tried(rt, sheet, journal, desk, input, at),
-        5 => questions::movement_tried(rt, sheet, desk, input, at),
-        6 => questions::work_tried(rt, sheet, desk, input, at),
-        7 => hearing::record_tried(rt, second, journal, desk, input, at),
-        8 => questions::movement_tried(rt, second, desk, input, at),
-        9 => questions::work_tried(rt, second, desk, input, at),
-        10 => hearing::record_tried(rt, third, journal, desk, input, at),
-        11 => questions::movement_tried(rt, third, desk, input, at),
-        12 => questions::work_tried(rt, third, desk, input, at),
-        _ => Ok(at),
+        Kind::Fresh => bench.fresh_tried(rt, row),
+        Kind::Bytes => bench.bytes_written(rt, row),
+        Kind::Copy => bench.copy_tried(rt, row),
+        Kind::Record(station) => bench.record_tried(rt, station, row),
+        Kind::Movement(station) => bench.movement_tried(rt, station, row),
+        Kind::Work(station) => bench.work_tried(rt, station, row),
     }
 }
 
-// Writes the name at a place, and tries what stands after it; the place after that.
-fn named_tried(
-    rt: &impl Print,
-    sheet: &[u8],
-    second: &[u8],
-    third: &[u8],
-    journal: &[u8],
-    desk: &mut [u8],
-    input: &[u8],
-    at: usize,
-) -> io::Result<usize> {
-    rt.write_all(case_rows::name(input, at))?;
-    let kind = number_at(input, case_rows::after_name(input, at));
-    let next = row_tried(
-        rt, sheet, second, third, journal, desk, input, kind.value, kind.next,
-    )?;
-    rt.write_all(b"\n")?;
-    Ok(case_rows::after(next))
+// Writes the name of the row, and tries what stands after it.
+fn row_tried(rt: &impl Print, bench: &mut Bench<'_>, row: &mut Row<'_>) -> io::Result<()> {
+    rt.write_all(row.name())?;
+    kind_tried(rt, bench, row)?;
+    row.skip();
+    rt.write_all(b"\n")
 }
 
-// Tries the row at a place, if there is one and it is no remark; the place of the next row.
-fn line_tried(
-    rt: &impl Print,
-    sheet: &[u8],
-    second: &[u8],
-    third: &[u8],
-    journal: &[u8],
-    desk: &mut [u8],
-    input: &[u8],
-    at: usize,
-) -> io::Result<usize> {
-    let first = case_rows::byte_at(input, at);
-    if first == b'\n' {
-        return Ok(at);
-    }
-    if first == b'#' {
-        return Ok(case_rows::after_line(input, at));
-    }
-    named_tried(rt, sheet, second, third, journal, desk, input, at)
-}
-
-// Tries every row, at most 1,600.
-fn all_tried(
-    rt: &impl Print,
-    sheet: &[u8],
-    second: &[u8],
-    third: &[u8],
-    journal: &[u8],
-    input: &[u8],
-) -> io::Result<()> {
-    let mut desk = [7u8; ROOM];
-    let mut at: usize = 0;
-    let mut i: usize = 0;
-    while i < 1600 {
-        at = line_tried(rt, sheet, second, third, journal, &mut desk, input, at)?;
-        i += 1;
+// Tries every row that is no remark; remarks and rows are at most 1,600. Each program of rows has this loop, since a
+// library's call would owe a clause on what is printed.
+fn all_tried(rt: &impl Print, bench: &mut Bench<'_>, row: &mut Row<'_>) -> io::Result<()> {
+    for _ in 0..1600u16 {
+        match row.byte() {
+            b'\n' => return Ok(()),
+            b'#' => row.skip_line(),
+            _ => row_tried(rt, bench, row)?,
+        }
     }
     Ok(())
 }
 
-// The sheet's buffer has a byte more than the sheet of station K.
-// Reads the input until it ends, a read fails or the buffer is full; what is past it in the buffer stays as it was.
-fn read_input<R: Read>(reader: &mut R, buf: &mut [u8]) {
-    let mut done: usize = 0;
-    while done < buf.len() {
-        let Ok(n) = reader.read(&mut buf[done..]) else {
-            return;
-        };
-        if n == 0 {
-            return;
-        }
-        done += n;
-    }
-}
-
 fn main(rt: HostRuntime) -> io::Result<()> {
-    let mut sheet = [0u8; SHEET + 1];
+    // A byte more than the sheet of station K.
+    let mut first = [0u8; SHEET + 1];
     let mut second = [0u8; 128];
     let mut third = [0u8; 256];
     let mut journal = [0u8; 1024];
-    let mut input = [b'\n'; 65536];
-    files::read_file(&rt, b"sheet", &mut sheet);
-    let m = files::read_file(&rt, b"second", &mut second);
-    let k = files::read_file(&rt, b"third", &mut third);
-    let n = files::read_file(&rt, b"journal", &mut journal);
-    read_input(&mut rt.reader(), &mut input);
-    all_tried(
-        &rt,
-        &sheet,
-        &second[..m],
-        &third[..k],
-        &journal[..n],
-        &input,
-    )
+    let mut input = Vec::new(rt.alloc());
+    files::read_file(&rt, b"sheet", &mut first);
+    rt.reader().take(65536).read_to_end(&mut input)?;
+    let first = Sheet {
+        bytes: &first,
+        length: SHEET,
+    };
+    let second = Sheet::from(files::read_file(&rt, b"second", &mut second));
+    let third = Sheet::from(files::read_file(&rt, b"third", &mut third));
+    let journal = files::read_file(&rt, b"journal", &mut journal);
+    let mut bench = Bench {
+        first,
+        second,
+        third,
+        journal,
+        desk: [7; ROOM],
+    };
+    let mut row = Row {
+        text: input.as_slice(),
+        at: 0,
+    };
+    all_tried(&rt, &mut bench, &mut row)
 }

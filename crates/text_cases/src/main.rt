@@ -7,28 +7,27 @@ use std::io;
 use std::rt::Files;
 
 // Writes the name of a case and prints the text of its two files.
-fn tried(rt: &(impl Files + Print), name: &[u8], sheet: &[u8], journal: &[u8]) -> io::Result<()> {
-    rt.write_all(name)?;
-    rt.write_all(b":\n")?;
+fn tried(rt: &(impl Files + Print), name: &str, sheet: &[u8], journal: &[u8]) -> io::Result<()> {
+    println!(rt; "{name}:")?;
     printing::print_files(rt, sheet, journal)
 }
 
 fn main(rt: HostRuntime) -> io::Result<()> {
-    tried(&rt, b"both good", b"sheet", b"journal")?;
-    tried(&rt, b"sheet of 49 bytes", b"sheet-49", b"journal")?;
-    tried(&rt, b"sheet with another mark", b"sheet-mark", b"journal")?;
-    tried(&rt, b"journal with another mark", b"sheet", b"journal-mark")?;
+    tried(&rt, "both good", b"sheet", b"journal")?;
+    tried(&rt, "sheet of 49 bytes", b"sheet-49", b"journal")?;
+    tried(&rt, "sheet with another mark", b"sheet-mark", b"journal")?;
+    tried(&rt, "journal with another mark", b"sheet", b"journal-mark")?;
     tried(
         &rt,
-        b"journal cut within its last record",
+        "journal cut within its last record",
         b"sheet",
         b"journal-cut",
     )?;
-    tried(&rt, b"both refused", b"sheet-mark", b"journal-mark")?;
-    tried(&rt, b"no sheet", b"none", b"journal")?;
-    tried(&rt, b"no journal", b"sheet", b"none")?;
-    tried(&rt, b"no files", b"none", b"none")?;
-    tried(&rt, b"empty journal", b"sheet", b"journal-empty")?;
-    tried(&rt, b"folder for the sheet", b".", b"journal")?;
-    tried(&rt, b"folder for the journal", b"sheet", b".")
+    tried(&rt, "both refused", b"sheet-mark", b"journal-mark")?;
+    tried(&rt, "no sheet", b"none", b"journal")?;
+    tried(&rt, "no journal", b"sheet", b"none")?;
+    tried(&rt, "no files", b"none", b"none")?;
+    tried(&rt, "empty journal", b"sheet", b"journal-empty")?;
+    tried(&rt, "folder for the sheet", b".", b"journal")?;
+    tried(&rt, "folder for the journal", b"sheet", b".")
 }

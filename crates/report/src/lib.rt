@@ -6,7 +6,7 @@
 
 ghost use Rattle.std.specs.Prelude.{◌≡◌};
 ghost use Rattle.report.specs.Answers.{with_answer};
-ghost use Rattle.report.specs.Text.{decimal, text_of, put_byte, put_all};
+ghost use Rattle.report.specs.Text.{text_of, put_all};
 
 use writing::Text;
 
@@ -23,24 +23,6 @@ pub fn put_answer(s: &mut [u8], n: u32, code: u8, minutes: u32)
     let at = ANSWER * (n as usize);
     bigendian::put(s, at, code);
     bigendian::put(s, at + 1, minutes);
-}
-
-// Puts a byte at a place, and says where the next one goes; past the end nothing is stored.
-pub fn put_byte(out: &mut [u8], at: usize, b: u8) -> usize
-    ensures { record { place = result; bytes = out.new } ≡ put_byte out.old at b }
-{
-    let mut text = Text { out, at };
-    text.put_byte(b);
-    text.at
-}
-
-// Puts a number in decimal digits at a place, and says where the next byte goes.
-pub fn put_decimal(out: &mut [u8], at: usize, n: u32) -> usize
-    ensures { record { place = result; bytes = out.new } ≡ put_all out.old at (decimal n) }
-{
-    let mut text = Text { out, at };
-    text.put_decimal(n);
-    text.at
 }
 
 // The text of a list of answers: a line for each, its number from 1, its code, its minutes; of a refusal its number on

@@ -14,7 +14,7 @@ pub struct Text<'a> {
 impl Text<'_> {
     // Past the end nothing is stored.
     #[tactic(auto, unfolding(crate::specs::Text::put_byte))]
-    pub fn put_byte(&mut self, b: u8)
+    fn put_byte(&mut self, b: u8)
         ensures same_buffer { self.new.out.ghost_name ≡ self.old.out.ghost_name }
         ensures put { record { place = self.new.at; bytes = self.new.out.now }
             ≡ put_byte self.old.out.now self.old.at b }
@@ -35,7 +35,7 @@ impl Text<'_> {
         }
     }
 
-    pub fn put_decimal(&mut self, n: u32)
+    fn put_decimal(&mut self, n: u32)
         ensures same_buffer { self.new.out.ghost_name ≡ self.old.out.ghost_name }
         ensures put { record { place = self.new.at; bytes = self.new.out.now }
             ≡ put_all self.old.out.now self.old.at (decimal n) }

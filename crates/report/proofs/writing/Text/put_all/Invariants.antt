@@ -4,7 +4,7 @@ use Rattle.report.specs.Text.{put_all}
 use Rattle.report.proofs.writing.Text.put_all.Given as goal
 
 abbrev pub invariant-loop-b : goal.invariant-loop-b
-invariant-loop-b l = record {
-  same_buffer : l.self.out.ghost_name ≡ l.fn.self.out.ghost_name;
-  rest : put_all l.fn.self.out.now l.fn.self.at l.bytes ≡ put_all l.self.out.now l.self.at (drop l.b-index l.bytes);
-}
+invariant-loop-b l =
+    (l.self.out.ghost_name ≡ l.fn.self.out.ghost_name)
+    × (put_all l.fn.self.out.now l.fn.self.at l.bytes
+    ≡ put_all l.self.out.now l.self.at (drop l.b-index l.bytes))

@@ -12,14 +12,12 @@ returns-then-code-ne0-clause-put c =
 pub loop-i-preserved : goal.loop-i-preserved
 loop-i-preserved c =
     let l = c.loop-i in
-    let line = rw (c.get-in-loop-i.ensures, c.get.ensures) at c.put_line.ensures.put in
-    record {
-      same_buffer = c.put_line.ensures.same_buffer ∙ l.invariant.same_buffer;
-      rest =
-          l.invariant.rest
+    let line = rw (c.get-in-loop-i.ensures, c.get.ensures) at c.put_line.ensures.put in (
+      c.put_line.ensures.same_buffer ∙ l.invariant.0,
+      l.invariant.1
           ∙ ap (put_all l.self.out.now l.self.at) (lines_next c.args.answers.now l.i c.args.count c.loop-i-test.true)
-          ∙ put-after _ _ _ _ line;
-    }
+          ∙ put-after _ _ _ _ line,
+    )
 
 pub returns-clause-put : goal.returns-clause-put
 unfolding text_of put_all
@@ -31,4 +29,4 @@ returns-clause-put c =
     let rest =
     ap (λ (k : ℕ). put_all l.self.out.now l.self.at (lines_from s k (a.count - k))) ended
     ∙ ap (put_all l.self.out.now l.self.at) (lines_end s a.count) in
-    rw (eq-eqb a.code 0 (search rules)) (sym (l.invariant.rest ∙ rest))
+    rw (eq-eqb a.code 0 (search rules)) (sym (l.invariant.1 ∙ rest))

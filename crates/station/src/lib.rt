@@ -29,7 +29,8 @@ pub const ROUTES: usize = 64;
 
 pub const ZONES: usize = 8;
 
-// A turnout: its zone, the number of its group (255 for alone), its drive (0 electric, 1 hand with key lock).
+// A turnout: its zone, the number of its group (255 for alone), its drive (0 electric, 1 hand with key lock). They stay
+// bytes: a station is judged as it stands, whatever they are (SHEET-2, WRITE-3).
 #[derive(Clone, Copy, Debug, PartialEq, Eq)]
 pub struct Turnout {
     pub zone: u8,

@@ -11,7 +11,7 @@ use Rattle.message.specs.declared.Message.{Message}
 use Rattle.refusals.specs.declared.Refusal.{Refusal}
 use Rattle.refusals.specs.Numbers.{number_of}
 use Rattle.message.specs.Record.{accepted, refused, read_record}
-use Rattle.message.proofs.Numbers.{not_zero}
+use Rattle.refusals.proofs.Numbers.{not_zero}
 use Rattle.station.specs.declared.Station.{Station}
 use Rattle.sheet.specs.Sheet.{read_sheet}
 use Rattle.zone.specs.Zone.{Answer}

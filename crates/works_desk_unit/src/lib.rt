@@ -44,7 +44,7 @@ pub fn unit_fresh(desk: &mut [u8]) -> u8
 }
 
 // The sheet's station. Refused by the sheet's number, then by 61 for bytes that are no desk's (UNIT-3, UNIT-4).
-#[tactic(auto, using(message::proofs::Numbers::not_zero), unfolding(crate::specs::Unit::started))]
+#[tactic(auto, using(refusals::proofs::Numbers::not_zero), unfolding(crate::specs::Unit::started))]
 fn start(sheet: &[u8], desk: &[u8]) -> Result<Station, Refusal>
     ensures number { code_of result ≡ (started sheet.now desk.now).code }
     ensures station { IfOk result (λ st. st ≡ (started sheet.now desk.now).station) }
@@ -56,7 +56,7 @@ fn start(sheet: &[u8], desk: &[u8]) -> Result<Station, Refusal>
 
 // Hears a record, and gives the minutes; where it is accepted, stores its zone then. Refused by the sheet's number, by
 // 61, then as the desk refuses the record (UNIT-3).
-#[tactic(auto, using(message::proofs::Numbers::not_zero), unfolding(crate::specs::Unit::unit_applied))]
+#[tactic(auto, using(refusals::proofs::Numbers::not_zero), unfolding(crate::specs::Unit::unit_applied))]
 fn apply(sheet: &[u8], desk: &mut [u8], record: &[u8]) -> Result<u32, Refusal>
     ensures { unit_answer_of desk.new result ≡ unit_applied sheet.now desk.old «record».now }
 {
@@ -81,7 +81,7 @@ pub fn unit_apply(sheet: &[u8], desk: &mut [u8], record: &[u8]) -> u64
     }
 }
 
-#[tactic(auto, using(message::proofs::Numbers::not_zero), unfolding(crate::specs::Unit::unit_movement))]
+#[tactic(auto, using(refusals::proofs::Numbers::not_zero), unfolding(crate::specs::Unit::unit_movement))]
 fn movement(sheet: &[u8], desk: &[u8], zone: u8, train: u32) -> Result<MovementState, Refusal>
     ensures { movement_answer_of result ≡ unit_movement sheet.now desk.now zone train }
 {
@@ -97,7 +97,7 @@ pub fn unit_movement(sheet: &[u8], desk: &[u8], zone: u8, train: u32) -> u64
     packed::movement_packed(movement(sheet, desk, zone, train))
 }
 
-#[tactic(auto, using(message::proofs::Numbers::not_zero), unfolding(crate::specs::Unit::unit_work))]
+#[tactic(auto, using(refusals::proofs::Numbers::not_zero), unfolding(crate::specs::Unit::unit_work))]
 fn work(sheet: &[u8], desk: &[u8], turnout: u8) -> Result<bool, Refusal>
     ensures { work_answer_of result ≡ unit_work sheet.now desk.now turnout }
 {

@@ -34,6 +34,7 @@ pub fn is_agreed(w: Work) -> bool
     matches!(w, Work::Agreed(_))
 }
 
+// Three matches of this shape: one for all would be lent two closures by each.
 fn form_of(w: Work) -> u32
     ensures { result ≡ form_of w }
 {

@@ -13,13 +13,21 @@ use Rattle.refusals.specs.Numbers.{number_of}
 use Rattle.message.specs.Record.{accepted, refused, read_record}
 use Rattle.refusals.proofs.Numbers.{not_zero}
 use Rattle.station.specs.declared.Station.{Station}
-use Rattle.sheet.specs.Sheet.{read_sheet}
+use Rattle.sheet.specs.Sheet.{Sheet, read_sheet}
 use Rattle.zone.specs.Zone.{Answer}
 use Rattle.desk.specs.Desk.{zone_at, refused_by, put_back, applied_record, zone_place, zone_hears}
 use Rattle.desk.proofs.InPlace.{reached-in-place}
 use Rattle.desk_bytes.specs.Encoding.{desk_in, is_desk, stored_zone}
 use Rattle.desk_bytes.proofs.ZonePlaces.{zone-stored}
-use Rattle.works_desk_unit.specs.Unit.{started, stored, refused_unit, unit_applied}
+use Rattle.works_desk_unit.specs.Unit.{start_number, started, stored, refused_unit, unit_applied}
+
+-- what the two checks at the start of a record or a question have answered
+pub started-by :
+    (sheet desk : List ℕ) {read : Sheet} {code : ℕ} → read ≡ read_sheet sheet
+    → code ≡ start_number read.code desk
+    → started sheet desk ≡ record { code = code; index = read.index; station = read.station }
+unfolding started
+started-by sheet desk as_read as-told = rw (as-told, as_read)
 
 pub started-desk : (sheet desk : List ℕ) → (started sheet desk).code ≡ 0 → is_desk desk ≡ true
 unfolding started

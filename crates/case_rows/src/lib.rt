@@ -13,9 +13,9 @@ mod row;
 
 // A number, and the place after it.
 #[derive(Clone, Copy)]
-pub struct Parsed {
-    pub value: u16,
-    pub next: usize,
+struct Parsed {
+    value: u16,
+    next: usize,
 }
 
 // The byte at a place.
@@ -27,7 +27,7 @@ pub fn byte_at(text: &[u8], at: usize) -> u8
 }
 
 // The next place.
-pub fn after(at: usize) -> usize
+fn after(at: usize) -> usize
     ensures { result ≡ after at }
 {
     at.wrapping_add(1)
@@ -58,14 +58,14 @@ fn repeated<T, F: Fn(T) -> T>(n: u8, start: T, step: F) -> T
 
 // The place after the name at a place; a name has at most 40 bytes.
 #[tactic(auto, unfolding(crate::specs::Rows::after_name))]
-pub fn after_name(text: &[u8], at: usize) -> usize
+fn after_name(text: &[u8], at: usize) -> usize
     ensures { result ≡ after_name text.now at }
 {
     repeated(40, at, |next| after_letter(text, next))
 }
 
 // The name at a place, as that part of the text; an empty part past the end.
-pub fn name<'a>(text: &'a [u8], at: usize) -> &'a [u8]
+fn name<'a>(text: &'a [u8], at: usize) -> &'a [u8]
     ensures { result.now ≡ name_at text.now at }
 {
     if text.len() < at {
@@ -92,7 +92,7 @@ fn with_digit(text: &[u8], n: Parsed) -> Parsed
 
 // The number of at most 4 digits that stands after the space at a place.
 #[tactic(auto, unfolding(crate::specs::Rows::number_at))]
-pub fn number_at(text: &[u8], at: usize) -> Parsed
+fn number_at(text: &[u8], at: usize) -> Parsed
     ensures { result ≡ number_at text.now at }
 {
     let none = Parsed {
@@ -115,7 +115,7 @@ fn towards_end(text: &[u8], at: usize) -> usize
 
 // The place after a line of at most 200 bytes.
 #[tactic(auto, unfolding(crate::specs::Rows::after_line))]
-pub fn after_line(text: &[u8], at: usize) -> usize
+fn after_line(text: &[u8], at: usize) -> usize
     ensures { result ≡ after_line text.now at }
 {
     after(repeated(200, at, |next| towards_end(text, next)))
@@ -138,7 +138,7 @@ fn put_pair(s: &mut [u8], input: &[u8], at: usize) -> usize
 
 // Stores the damage from a place on, at most 16 pairs; the place after it. Not by `repeated`: the step lends the buffer,
 // so that it is no `Fn`.
-pub fn put_pairs(s: &mut [u8], input: &[u8], at: usize) -> usize
+fn put_pairs(s: &mut [u8], input: &[u8], at: usize) -> usize
     ensures { record { place = result; bytes = s.new }
         ≡ with_pairs s.old input.now at }
 {

@@ -45,8 +45,8 @@ bad_turnout st = first_from (λ n. not (good_turnout st n)) 0 (turnout_count st)
 abbrev pub found_below : ℕ → ℕ → Option ℕ
 found_below n limit = cond (ltb n limit) (Some n) None
 
-abbrev pub first_bad : Station → Option ℕ
-first_bad st = found_below (bad_turnout st) (turnout_count st)
+abbrev pub first_bad_turnout : Station → Option ℕ
+first_bad_turnout st = found_below (bad_turnout st) (turnout_count st)
 
 -- For code: a number for each zone below 8 and each drive, and the records that carry it in place of a
 -- group's. The turnouts of one such zone and drive are then tied: the law `same-likes`.

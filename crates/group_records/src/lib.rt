@@ -10,7 +10,7 @@ ghost use Rattle.group_records.specs.GroupRecords.{
   by_zone_drive,
   group_kept,
   turnout_kept,
-  first_bad,
+  first_bad_turnout,
 };
 
 use groups::carriers::{GROUPS, ties};
@@ -65,7 +65,7 @@ fn turnout_kept(z: usize, t: Turnout, group: u64, like: u64) -> bool
 // The index of the first bad one of p turnouts with these records, of z zones; none if all are good (SHEET-11). A count
 // and 64 records, and no slice: `bad_turnout` speaks of a count that may be over its limit (VALUE-1).
 pub fn first_bad_turnout(p: u8, z: u8, ts: [Turnout; 64]) -> Option<u8>
-    ensures { result ≡ first_bad (turnouts_alone p z ts) }
+    ensures { result ≡ first_bad_turnout (turnouts_alone p z ts) }
 {
     let zones = usize::from(z).min(ZONES);
     let tied = ties(p, ts);

@@ -38,8 +38,8 @@ unfoldable pub bad_turnout : Station → ℕ
 bad_turnout st = first_from (λ n. not (good_turnout st n)) 0 (turnout_count st)
 
 -- the same for code: the first bad record, if there is one
-abbrev pub first_bad : Station → Option ℕ
-first_bad st = found_below (bad_turnout st) (turnout_count st)
+abbrev pub first_bad_turnout : Station → Option ℕ
+first_bad_turnout st = found_below (bad_turnout st) (turnout_count st)
 
 -- turnout n, with the record t, is the lower end of a crossover
 abbrev pub lower_end_of : ℕ → ℕ → Turnout → Bool

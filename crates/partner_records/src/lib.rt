@@ -8,7 +8,7 @@ ghost use Rattle.station.specs.Station.{turnouts_alone};
 ghost use Rattle.partner_records.specs.PartnerRecords.{
   turnout_kept,
   partner_kept,
-  first_bad,
+  first_bad_turnout,
   lower_end_of,
   renumbered,
 };
@@ -36,7 +36,7 @@ fn turnout_kept(p: usize, z: usize, n: usize, t: Turnout, o: Turnout) -> bool
 // The index of the first bad one of p turnouts with these records, of z zones; none if all are good (SHEET-11). A count
 // and 64 records, and no slice: `bad_turnout` speaks of a count that may be over its limit (VALUE-1).
 pub fn first_bad_turnout(p: u8, z: u8, ts: [Turnout; 64]) -> Option<u8>
-    ensures { result ≡ first_bad (turnouts_alone p z ts) }
+    ensures { result ≡ first_bad_turnout (turnouts_alone p z ts) }
 {
     let count = usize::from(p).min(TURNOUTS);
     let zones = usize::from(z).min(ZONES);

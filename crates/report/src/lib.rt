@@ -26,7 +26,8 @@ pub fn put_answer(s: &mut [u8], n: u32, code: u8, minutes: u32)
 }
 
 // The text of a list of answers: a line for each, its number from 1, its code, its minutes; of a refusal its number on
-// one line (PROGRAM-1, PROGRAM-2). Says how long the text is that the buffer then holds from its start on.
+// one line (PROGRAM-1, PROGRAM-2). Says how long the text is that the buffer then holds from its start on: a count, as
+// `read` gives, since no clause can name a buffer that the answer borrows, and the promise names all of it.
 pub fn text(code: u8, answers: &[u8], count: u32, out: &mut [u8]) -> usize
     ensures { record { place = result; bytes = out.new }
         ≡ put_all out.old 0 (text_of code answers.now count) }

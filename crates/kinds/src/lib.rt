@@ -1,5 +1,6 @@
 // The thirteen kinds of message over one zone (KIND-1 to KIND-13 of docs/RULES.md): each is its checks, in the written
-// order, and its effect. The rules are in the crate `rules`, specs/Kinds.antt.
+// order, and its effect. The rules are in the crate `rules`, specs/Kinds.antt. A kind is a function of its own, as its
+// row is, also where two leave the same zone.
 #![tactic(auto, using(refusals::proofs::Numbers::not_zero), // no refusal has the number 0
 unfolding(rules::specs::Kinds::answered, rules::specs::Kinds::row, rules::specs::Kinds::zone_after, // a kind's answer
 rules::specs::Kinds::work_after, rules::specs::Kinds::moved, // what it does to the work and the movement

@@ -31,9 +31,7 @@ const HEADER: u16 = 8;
 fn has_mark(s: &[u8]) -> bool
     ensures { result ≡ has_mark s.now }
 {
-    (bigendian::get::<u8>(s, 0) == b'S')
-        & (bigendian::get::<u8>(s, 1) == b'P')
-        & (bigendian::get::<u8>(s, 2) == b'T')
+    s.starts_with(b"SPT")
 }
 
 // Whether there are at most so many turnouts and routes.

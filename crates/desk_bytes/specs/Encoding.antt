@@ -1,7 +1,8 @@
 -- A desk as 520 bytes, UNIT-1 (docs/RULES.md), and the desk that stands in bytes. Numbers are
 -- big-endian (SET-3); fields that the stage of the work, or a zone without a movement, does not
 -- have are 0.
-use Rattle.std.specs.Prelude.{Bool, true, false, cond, ◌&&◌, List, [], ◌∷◌, ◌++◌, ℕ, zero, suc, ◌+◌, ◌*◌, eqb, ltb, replicate, None, Some}
+use Rattle.std.specs.Prelude.{Bool, true, false, cond, ◌&&◌, List, [], ◌∷◌, ◌++◌, ℕ, zero, suc, ◌+◌, ◌*◌}
+use Rattle.std.specs.Prelude.{eqb, ltb, replicate, None, Some}
 use Rattle.std.proofs.lemmas.List.Edits.{sets}
 use Rattle.bigendian.specs.BigEndian.{byte_at, number_at, be_bytes}
 use Rattle.zone.specs.declared.Work.{Work}

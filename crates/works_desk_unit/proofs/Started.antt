@@ -6,11 +6,12 @@ use mathlib.Core.Path.{◌≡◌, refl, sym}
 use Prim.Native.Nat.{ℕ, ◌<◌}
 use native.Mathlib.Omega.{arith}
 use lib.Dec.{eqb}
-use borrow.Author.Tests.{eqb-false, eq-eqb}
+use borrow.Author.Tests.{eqb-false, eq-eqb, ne_eqb}
 use Rattle.message.specs.declared.Message.{Message}
 use Rattle.refusals.specs.declared.Refusal.{Refusal}
 use Rattle.refusals.specs.Numbers.{number_of}
 use Rattle.message.specs.Record.{accepted, refused, read_record}
+use Rattle.message.proofs.RoundTrips.{refused-by}
 use Rattle.refusals.proofs.Numbers.{not_zero}
 use Rattle.station.specs.declared.Station.{Station}
 use Rattle.sheet.specs.Sheet.{Sheet, read_sheet}
@@ -50,10 +51,10 @@ record-heard st s r m read = rw (← read) (reached-in-place st (desk_in s) m)
 
 -- a record that is refused by a number
 pub record-refused :
-    (st : Station) (s r : List ℕ) (e : Refusal) → refused (number_of e) ≡ read_record r
-    → applied_record st (desk_in s) r ≡ refused_by (desk_in s) (number_of e)
+    (st : Station) (s r : List ℕ) (number : ℕ) → refused number ≡ read_record r
+    → applied_record st (desk_in s) r ≡ refused_by (desk_in s) number
 unfolding applied_record
-record-refused st s r e read = rw (← read, not_zero e)
+record-refused st s r number read = rw (← read, ne_eqb number 0 (refused-by r number read))
 
 -- a record that the desk refuses, as the unit of that station answers it
 pub unit-refused :

@@ -1,5 +1,6 @@
 -- A record that is refused, and one that is accepted: the zone that is stored is the desk's next.
 use Rattle.std.proofs.Common.{rules, refl, sym, ap, ◌∙◌, eq-eqb}
+use Rattle.refusals.specs.Numbers.{number_of}
 use Rattle.zone.specs.Zone.{Answer}
 use Rattle.desk.specs.Desk.{Applied}
 use Rattle.works_desk_unit.specs.Unit.{started, unit_applied}
@@ -18,7 +19,7 @@ returns-in_err-m c =
     let s = c.args.desk.now in
     let r = c.args.«record».now in
     let e = c.in_err-m.field-0.0 in
-    let code = sym (ap (λ (a : Applied). a.code) (record-refused st.st s r e c.in_err-m.ensures)) in
+    let code = sym (ap (λ (a : Applied). a.code) (record-refused st.st s r (number_of e) c.in_err-m.ensures)) in
     let told = unit-refused c.args.sheet.now s r st.st e st.ensures.number st.ensures.station code in
     search rules
 

@@ -1,6 +1,6 @@
 -- The law of the unit, proved: it hears records as the desk of the contracts does, so records heard
 -- one by one get what replaying them as a journal gives.
-use mathlib.Core.Path.{◌≡◌, refl, sym, ap}
+use mathlib.Core.Path.{◌≡◌, refl, sym, ap, ◌∙◌}
 use mathlib.Core.Bool.{Bool, true, false}
 use mathlib.Core.List.{List, [], ◌∷◌, map}
 use Prim.Native.Nat.{ℕ, zero, suc, ◌+◌}
@@ -61,8 +61,10 @@ pub hears-as :
     ≡ record { code = a.code; minutes = a.minutes; bytes = desk_bytes a.desk }
 unfolding unit_applied started
 hears-as sheet good d fits r =
-    rw (eq-eqb (read_sheet sheet).code 0 good, encoded-is-desk d fits, decoded-encoded d fits)
-    (stored-as (read_sheet sheet).station d r)
+    let st = (read_sheet sheet).station in
+    rw (eq-eqb (read_sheet sheet).code 0 good, encoded-is-desk d fits)
+    (ap (λ (e : Desk). stored (desk_bytes d) (applied_record st e r)) (decoded-encoded d fits)
+    ∙ stored-as st d r)
 
 -- the unit of an accepted sheet follows the desk of the contracts
 unfoldable pub follows :

@@ -37,7 +37,7 @@ pub trait Number: Copy {
     ghost stores: { (s : List ℕ) (at n : ℕ) → n < 256 ^ BYTES → with_number s at n ≡ stored_at BYTES s at n };
 }
 
-// An impl a type: no macro may write one, and a ghost member's default cannot name another member.
+// One impl for each type: no macro may write them, and a ghost member's default cannot name another member.
 impl Number for u8 {
     const BYTES: usize = 1;
 

@@ -4,8 +4,8 @@
 #![tactic(auto)]
 
 ghost use Rattle.std.specs.Prelude.{◌≡◌};
-ghost use Rattle.case_rows.specs.Rows.{repeated, byte_at, after, after_letter, after_name, name_at, with_digit, number_at};
-ghost use Rattle.case_rows.specs.Rows.{towards_end, after_line, with_pair, with_pairs};
+ghost use Rattle.case_rows.specs.Rows.{repeated, byte_at, after, after_letter, after_name, name_at, with_digit};
+ghost use Rattle.case_rows.specs.Rows.{number_at, towards_end, after_line, with_pair, with_pairs};
 
 pub use row::Row;
 
@@ -136,8 +136,8 @@ fn put_pair(s: &mut [u8], input: &[u8], at: usize) -> usize
     value.next
 }
 
-// Stores the damage from a place on, at most 16 pairs; the place after it. Not by `repeated`: the step lends the buffer,
-// so that it is no `Fn`.
+// Stores the damage from a place on, at most 16 pairs; the place after it. Not by `repeated`: the step lends the
+// buffer, so that it is no `Fn`.
 fn put_pairs(s: &mut [u8], input: &[u8], at: usize) -> usize
     ensures { record { place = result; bytes = s.new }
         ≡ with_pairs s.old input.now at }

@@ -2,7 +2,8 @@
 ghost use Rattle.std.specs.Prelude.{◌≡◌};
 ghost use Rattle.case_rows.specs.Rows.{byte_at, after, after_name, after_line, name_at, number_at, with_pairs};
 
-// The input, and the place of the next byte. Each method that moves the place keeps the input.
+// The input, and the place of the next byte. Each method that moves the place keeps the input, and says so: no
+// invariant of the type can speak of the row before and after.
 #[derive(Clone, Copy, Drop)]
 pub struct Row<'a> {
     pub text: &'a [u8],

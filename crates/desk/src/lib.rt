@@ -39,6 +39,7 @@ pub struct Desk {
 }
 
 // What an accepted message leaves: the desk after it, and the minutes. One that is refused leaves the desk as it was.
+// Beside `zone::Heard` a struct of its own: each names what it holds, and the rules have two records.
 #[derive(Clone, Copy)]
 pub struct After {
     pub desk: Desk,
@@ -71,7 +72,8 @@ impl Desk {
     }
 }
 
-// The place of a message's zone in a desk; 0 for a zone that the station has not.
+// The place of a message's zone in a desk; 0 for a zone that the station has not, so that the law `reached-in-place` is
+// of every message.
 #[tactic(auto, unfolding(crate::specs::Desk::zone_place))]
 pub fn zone_place(st: Station, m: Message) -> usize
     ensures value { result ≡ zone_place st m }

@@ -1,4 +1,5 @@
-// The desk that stands in bytes, UNIT-1 (docs/RULES.md): each zone from its place on.
+// The desk that stands in bytes, UNIT-1 (docs/RULES.md): each zone from its place on. A stage, and whether a movement
+// stands, are bytes there beside the fields.
 ghost use Rattle.std.specs.Prelude.{◌≡◌, ◌+◌, ◌*◌};
 ghost use Rattle.desk_bytes.specs.Encoding.{work_in, movement_in, zone_in, desk_in};
 

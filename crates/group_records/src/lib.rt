@@ -34,7 +34,8 @@ fn as_zone_drive(t: Turnout) -> Turnout
     }
 }
 
-// The records with such numbers, so that the turnouts of one zone and drive are tied.
+// The records with such numbers, so that the turnouts of one zone and drive are tied. A loop of its own, as `groups`
+// ties have.
 fn by_zone_drive(p: u8, ts: [Turnout; 64]) -> [Turnout; 64]
     ensures { result ≡ by_zone_drive p ts }
 {

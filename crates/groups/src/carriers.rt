@@ -1,5 +1,6 @@
 // The turnouts that carry a group's number, 0 to 31, of so many turnouts with their records (SHEET-3 and VALUE-2 of
-// docs/RULES.md). A count and 64 records, and no slice: the rules speak of a count that may be over its limit (VALUE-1).
+// docs/RULES.md). A count and 64 records, and no slice: the rules speak of a count that may be over its limit
+// (VALUE-1).
 ghost use Rattle.std.specs.Prelude.{◌≡◌, eqb};
 ghost use Rattle.sets.specs.Table.{places};
 ghost use Rattle.groups.specs.Groups.{carriers_among, group_sets, tied_in, tied_among};
@@ -58,7 +59,8 @@ fn tied_in(gs: &[u64; 32], n: usize, g: u8) -> u64
     sets::only(n)
 }
 
-// What is tied to each turnout, in two passes over the turnouts; 0 past P.
+// What is tied to each turnout, in two passes over the turnouts; 0 past P. A loop of its own, beside that of a sheet's
+// records: one table for all would be lent a closure, and no public function asks its caller for that.
 pub fn ties(p: u8, ts: [Turnout; 64]) -> [u64; 64]
     ensures { result ≡ places (tied_among p ts) p 0 }
 {

@@ -1,5 +1,5 @@
-// The bytes of a station sheet (SHEET-1, SHEET-2, SHEET-4 and SHEET-10 to SHEET-12 of docs/RULES.md): its header's
-// number, and the station that stands in them. The rules are in specs/Layout.antt. The crate `sheet` judges the
+// The bytes of a station sheet (SHEET-1, SHEET-2, SHEET-4 and SHEET-10 to SHEET-12 of docs/RULES.md): the checks of its
+// header, and the station that stands in them. The rules are in specs/Layout.antt. The crate `sheet` judges the
 // station.
 #![tactic(auto)]
 

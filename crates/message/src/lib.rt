@@ -18,8 +18,8 @@ use refusals::{Refusal, refuse_if};
 // The length of a record in bytes.
 pub const RECORD: usize = 32;
 
-// A message: kind, zone, time in seconds, form number or train, two turnout sets, six details (RECORD-1). Its kind stays
-// a byte, as its details do: a message of any kind and detail is answered (11, 13).
+// A message: kind, zone, time in seconds, form number or train, two turnout sets, six details (RECORD-1). Its kind
+// stays a byte, as its details do: a message of any kind and detail is answered (11, 13).
 #[derive(Clone, Copy, Debug, PartialEq, Eq)]
 pub struct Message {
     pub a: u64,

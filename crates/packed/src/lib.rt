@@ -12,7 +12,7 @@ use refusals::Refusal;
 // What stands for the lowest turnout where none lacks a clearance (ASK-1).
 const NO_TURNOUT: u32 = 255;
 
-// The answer to a record: the code in the lowest byte, the minutes above it.
+// The answer to a record: the code in the lowest byte, the minutes above it. Of every code, as `answer_packed` says.
 pub fn answer_packed(code: u8, minutes: u32) -> u64
     ensures { result ≡ answer_packed code minutes }
 {

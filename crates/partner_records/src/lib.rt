@@ -74,8 +74,8 @@ fn number_with(below: &[u8; 64], n: usize, partner: u8) -> u8
     below[n]
 }
 
-// The records of p turnouts with their groups' numbers, in one pass: crossovers become groups (SHEET-14). A count and 64
-// records, as `renumbered` speaks of them.
+// The records of p turnouts with their groups' numbers, in one pass: crossovers become groups (SHEET-14). A count and
+// 64 records, as `renumbered` speaks of them; beside them how many lower ends stand below each, in fixed memory.
 pub fn renumber(p: u8, old: [Turnout; 64]) -> [Turnout; 64]
     ensures { result ≡ (renumbered (turnouts_alone p 0 old)).turnout }
 {

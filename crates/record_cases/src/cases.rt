@@ -81,8 +81,8 @@ pub const SHARED: [(Field, u64); 30] = [
     (Field::D5, 255),
 ];
 
-// The cases of one base kind each: the ends of the ranges of its details and the values next to them, bad kinds, and
-// bad fields under a bad kind.
+// The cases of one base kind each, by its number, since 14 is none: the ends of the ranges of its details and the
+// values next to them, bad kinds, and bad fields under a bad kind.
 pub const OWN: [(u8, Field, u64); 38] = [
     (1, Field::D0, 2),
     (1, Field::D0, 3),

@@ -15,7 +15,8 @@ mod writing;
 // The length of an answer in bytes.
 pub const ANSWER: usize = 5;
 
-// Stores answer n (REPLAY-1).
+// Stores answer n (REPLAY-1). A code and no refusal, here and below: these write and read the bytes of REPLAY-1, which
+// are lent by C, whatever stands there.
 #[tactic(auto, unfolding(crate::specs::Answers::with_answer))]
 pub fn put_answer(s: &mut [u8], n: u32, code: u8, minutes: u32)
     ensures { s.new ≡ with_answer s.old n code minutes }

@@ -4,7 +4,8 @@ ghost use Rattle.report.specs.Text.{decimal, line_of, text_of, put_byte, put_all
 
 use itoa::Buffer;
 
-// The buffer, and the place of its next byte. Each method keeps the buffer, and says what it has put.
+// The buffer, and the place of its next byte, which is the text's length. Each method keeps the buffer, and says so: no
+// invariant of the type can speak of the text before and after.
 #[derive(Drop)]
 pub struct Text<'a> {
     pub out: &'a mut [u8],

@@ -4,7 +4,7 @@ ghost use Rattle.rules.specs.Keys.{key_fits};
 
 use station::Route;
 
-// The key Es; Tcl is 1.
+// The key Es; Tcl is 1. A key is a byte of a message, which may hold any value (KIND-13.4).
 pub const ES: u8 = 2;
 
 // Whether a key may be used on turnout n of the route: on flank either, in the exit zone Es.

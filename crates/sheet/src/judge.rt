@@ -1,5 +1,6 @@
 // Judging a station whose counts are in range: the first bad turnout, by the rules of its sheet's version, then the
-// first bad route (SHEET-5 to SHEET-9 and SHEET-11 of docs/RULES.md).
+// first bad route (SHEET-5 to SHEET-9 and SHEET-11 of docs/RULES.md). Records come as a count and 64 of them, and no
+// slice: the rules speak of a count that may be over its limit (VALUE-1).
 ghost use Rattle.std.specs.Prelude.{◌≡◌, min, get_or};
 ghost use Rattle.sheet.specs.Sheet.{
   all_turnouts,
@@ -57,7 +58,8 @@ fn pair_in(group: u64) -> u64
     0
 }
 
-// The groups of two among the first p of these.
+// The groups of two among the first p of these. A loop of its own, as `groups` ties have: one table for all would be
+// lent a closure, and no public function asks its caller for that.
 fn pairs_in(p: u8, groups: [u64; 64]) -> [u64; 64]
     ensures { result ≡ places (λ k. pair_in (get_or groups k 0)) p 0 }
 {
@@ -113,7 +115,7 @@ pub fn judge_routes(st: Station) -> Result<(), Refusal>
 }
 
 // The first bad one of p turnouts with these records, of z zones, by the version of their sheet. The version stays its
-// number, which a caller may give as it stands in a sheet: an enum would be made of it, and matched here and below.
+// number: `bad_turnout_by` and `meant` take every version but 1 as 2.
 fn first_bad_turnout(version: u16, p: u8, z: u8, ts: [Turnout; 64]) -> Option<u8>
     ensures { result ≡ found_below (bad_turnout_by version (turnouts_alone p z ts)) (min p 64) }
 {
@@ -123,8 +125,7 @@ fn first_bad_turnout(version: u16, p: u8, z: u8, ts: [Turnout; 64]) -> Option<u8
     group_records::first_bad_turnout(p, z, ts)
 }
 
-// Judges these turnouts: the first bad one refuses them (SHEET-11). Here and below a count and 64 records, and no slice:
-// `bad_turnout_by` and `meant` speak of a count that may be over its limit (VALUE-1).
+// Judges these turnouts: the first bad one refuses them (SHEET-11).
 pub fn judge_turnouts(version: u16, p: u8, z: u8, ts: [Turnout; 64]) -> Result<(), Refusal>
     ensures { found_of result ≡ turnouts_found version (turnouts_alone p z ts) }
 {

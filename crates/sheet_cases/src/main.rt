@@ -136,7 +136,7 @@ fn all_tried(rt: &(impl Print + Alloc), row: &mut Row<'_>) -> io::Result<()> {
 
 fn main(rt: HostRuntime) -> io::Result<()> {
     let mut input = Vec::new(rt.alloc());
-    rt.reader().take(65536).read_to_end(&mut input)?;
+    rt.reader().take(65536).read_to_end(&mut input).unwrap_or(0);
     let mut row = Row {
         text: input.as_slice(),
         at: 0,

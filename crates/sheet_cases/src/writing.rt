@@ -7,7 +7,8 @@ use std::io;
 // Every byte of the buffer before the call.
 pub const BEFORE: u8 = 170;
 
-// Puts a number into a turnout: 0 the zone, 1 the number of its group, 2 the drive.
+// Puts a number into a turnout: 0 the zone, 1 the number of its group, 2 the drive. Here and below by the place in the
+// row of numbers, which is no kind.
 fn put_in_turnout(t: &mut Turnout, j: usize, value: u8) {
     match j {
         0 => t.zone = value,

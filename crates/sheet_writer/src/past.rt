@@ -1,4 +1,4 @@
-// What stands in a station past its counts: SHEET-12 and WRITE-3 (docs/RULES.md).
+// What stands in a station past its counts, with all 64 records: SHEET-12 and WRITE-3 (docs/RULES.md).
 ghost use Rattle.std.specs.Prelude.{◌≡◌};
 ghost use Rattle.std.specs.List.{list_all};
 ghost use Rattle.sheet_writer.specs.Past.{turnouts_end, routes_end};

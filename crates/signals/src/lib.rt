@@ -57,8 +57,8 @@ impl TryFrom<u8> for Verdict {
     }
 }
 
-// The verdict for works on a signal of a line. Refused by 33 for a line, a signal or flags out of range (SIGNAL-2), which
-// stay numbers, so that the rule can answer those.
+// The verdict for works on a signal of a line. Refused by 33 for a line, a signal or flags out of range (SIGNAL-2),
+// which stay numbers, so that the rule can answer those.
 pub fn judge(line: u8, signal: u8, flags: u8) -> Result<Verdict, Refusal>
     ensures { answer_of result ≡ judged line signal flags }
 {

@@ -68,7 +68,8 @@ impl Route {
     };
 }
 
-// A station: the counts P, R and Z, and the records; those past P and R are 0.
+// A station: the counts P, R and Z, and the records; those past P and R are 0. Counts beside 64 records of each: memory
+// is fixed, and a count over its limit is read as the limit (VALUE-1).
 #[derive(Clone, Copy, Debug, PartialEq, Eq)]
 pub struct Station {
     pub route: [Route; 64],
@@ -162,7 +163,8 @@ pub fn route_of(st: Station, n: usize) -> Route
     Route::NONE
 }
 
-// The index of a route's record in a station; 0 for a number from 64 on.
+// The index of a route's record in a station; 0 for a number from 64 on, so that `route_by` is lent a record in any
+// case (VALUE-3).
 pub fn route_index(n: u8) -> usize
     ensures value { result ≡ route_index n }
     ensures upper_bound { result < 64 }

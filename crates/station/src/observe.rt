@@ -1,4 +1,5 @@
-// Small functions on the numbers and records of a station, for its observers and for the crates that read it.
+// What is looked for among turnout records, a count and 64 of them (VALUE-1), for the observers of a station and for
+// the crates that read it.
 ghost use Rattle.std.specs.Prelude.{◌≡◌, get_or, Bool};
 ghost use Rattle.station.specs.Station.{empty_turnout, turnouts_meeting};
 ghost use Rattle.station.specs.declared.Turnout.{Turnout};

@@ -1,5 +1,6 @@
 // The writer of sheets and the test for splitting for every station value, from numbers in bytes: what `./compare`
-// tries them by. It is not shipped: a station that no sheet gave does not come from a unit.
+// tries them by, from C, so that it answers numbers. It is not shipped: a station that no sheet gave does not come from
+// a unit.
 #![tactic(auto)]
 
 ghost use Rattle.std.specs.Prelude.{◌≡◌};

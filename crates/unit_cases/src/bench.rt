@@ -17,7 +17,7 @@ pub fn first<'a>(s: &'a [u8], n: u16) -> &'a [u8] {
     s.get(..usize::from(n)).unwrap_or(s)
 }
 
-// A sheet: the first of these bytes, as many as its length says.
+// A sheet: the first of these bytes, as many as its length says; a case may read more of the bytes or less.
 #[derive(Clone, Copy)]
 pub struct Sheet<'a> {
     pub bytes: &'a [u8],
@@ -88,7 +88,7 @@ impl<'a> Bench<'a> {
         own
     }
 
-    // Record k of the journal, k from 1, in a buffer of N bytes; 0s if there is none, and where it ends.
+    // Record k of the journal, k from 1, in a buffer of N bytes, with 0s after its end; 0s alone if there is none.
     fn record<const N: usize>(&self, k: u16) -> [u8; N] {
         let mut record = [0u8; N];
         if k == 0 {
@@ -101,7 +101,7 @@ impl<'a> Bench<'a> {
         record
     }
 
-    // Kind 1: the length, then the damage that the desk gets after it.
+    // Stores the fresh desk: the length, then the damage that the desk gets after it.
     pub fn fresh_tried(&mut self, rt: &impl Print, row: &mut Row<'_>) -> io::Result<()> {
         let n = row.number();
         let before = self.desk;
@@ -113,7 +113,7 @@ impl<'a> Bench<'a> {
         Ok(())
     }
 
-    // Kind 2: the record's number, then its damage.
+    // Hears a record: its number, then its damage.
     pub fn record_tried(
         &mut self,
         rt: &impl Print,
@@ -128,7 +128,7 @@ impl<'a> Bench<'a> {
         heard(rt, sheet, &mut self.desk, DESK, &record)
     }
 
-    // Kind 3: the place and how many.
+    // Writes bytes of the desk: the place and how many.
     pub fn bytes_written(&self, rt: &impl Print, row: &mut Row<'_>) -> io::Result<()> {
         let place = usize::from(row.number());
         let n = usize::from(row.number());
@@ -138,7 +138,7 @@ impl<'a> Bench<'a> {
         Ok(())
     }
 
-    // Kind 4: the lengths of the sheet and of the desk, the record's number, its length, then the desk's damage.
+    // Hears by a copy: the lengths of sheet and desk, the record's number, its length, then the desk's damage.
     // Written last is whether the copy is changed.
     pub fn copy_tried(&self, rt: &impl Print, row: &mut Row<'_>) -> io::Result<()> {
         let sheet = first(self.first.bytes, row.number());

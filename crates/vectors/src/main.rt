@@ -55,7 +55,7 @@ fn put_lines(alloc: Global, out: &mut String, cases: Cases<'_>) -> Result<(), Al
     Ok(())
 }
 
-// As many bytes of the lines are printed.
+// At most so many bytes of the lines are printed.
 const TEXT: usize = 65536;
 
 fn main(rt: HostRuntime) -> io::Result<()> {

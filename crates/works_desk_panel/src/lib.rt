@@ -1,5 +1,6 @@
 // The static library of the cabin panel (PANEL-1 to PANEL-3 of docs/RULES.md), a product of its own, for firmware in C
-// or Rust: a byte slice goes as a pointer and a length. It takes any bytes.
+// or Rust: a byte slice goes as a pointer and a length. It takes any bytes. Code and index are packed here as in
+// `works_desk_journal`: this archive holds nothing of the desk.
 #![tactic(auto)]
 
 ghost use Rattle.std.specs.Prelude.{◌≡◌};

@@ -1,5 +1,5 @@
 // What the level Line adds to the static library `works_desk_journal`: the verdicts for works on signals (SIGNAL-1 to
-// SIGNAL-10 of docs/RULES.md).
+// SIGNAL-10 of docs/RULES.md), as a number for C.
 #![tactic(auto)]
 
 ghost use Rattle.std.specs.Prelude.{◌≡◌};

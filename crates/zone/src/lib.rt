@@ -12,7 +12,8 @@ pub mod regimes;
 pub mod trains;
 pub mod works;
 
-// What was asked for: the form number, how it was recorded (1 form M.45, 2 recorded verbal), the turnouts.
+// What was asked for: the form number, how it was recorded (1 form M.45, 2 recorded verbal; a byte, as said below), the
+// turnouts.
 #[derive(Clone, Copy)]
 pub struct Request {
     pub set: u64,

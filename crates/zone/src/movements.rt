@@ -101,7 +101,8 @@ pub fn named_turnouts(st: Station, v: Option<Passage>) -> u64
     station::names(route_for(st, v))
 }
 
-// The number of the movement's route; 255, which no route has, where none stands.
+// The number of the movement's route; 255, which no route has, where none stands, as the law `concerned-by-records` has
+// it.
 pub fn route_number(v: Option<Passage>) -> u8
     ensures { result ≡ route_number v }
 {

@@ -74,7 +74,8 @@ pub fn work_set(w: Work) -> u64
     }
 }
 
-// The turnouts under agreed work.
+// The turnouts under agreed work. Here and below a match of one arm: an agreement taken out first would be one more
+// definition, and no line less.
 pub fn agreed_set(w: Work) -> u64
     ensures { result ≡ agreed_set w }
 {

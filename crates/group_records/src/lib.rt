@@ -54,7 +54,8 @@ fn group_kept(group: u64, like: u64) -> bool
     (2 <= n) & (n <= 8) & sets::is_within(group, like)
 }
 
-// Whether a turnout's record is good, with the turnouts tied to it and those of its zone and drive (SHEET-2).
+// Whether a turnout's record is good, with the turnouts tied to it and those of its zone and drive (SHEET-2). Version 1
+// has a rule of its own, on partners.
 fn turnout_kept(z: usize, t: Turnout, group: u64, like: u64) -> bool
     ensures { result ≡ turnout_kept z t group like }
 {
@@ -64,7 +65,8 @@ fn turnout_kept(z: usize, t: Turnout, group: u64, like: u64) -> bool
 }
 
 // The index of the first bad one of p turnouts with these records, of z zones; none if all are good (SHEET-11). A count
-// and 64 records, and no slice: `bad_turnout` speaks of a count that may be over its limit (VALUE-1).
+// and 64 records, and no slice: `bad_turnout` speaks of a count that may be over its limit (VALUE-1). What is tied and
+// what is alike is worked out for all turnouts in one pass each, in fixed memory.
 pub fn first_bad_turnout(p: u8, z: u8, ts: [Turnout; 64]) -> Option<u8>
     ensures { result ≡ first_bad_turnout (turnouts_alone p z ts) }
 {

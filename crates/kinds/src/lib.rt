@@ -173,7 +173,8 @@ fn hear_kind(h: &Hearing) -> Result<Heard, Refusal>
     }
 }
 
-// A message heard by its zone: 14, then the checks and the effect of its kind (HEAR-3, HEAR-4).
+// A message heard by its zone: 14, then the checks and the effect of its kind (HEAR-3, HEAR-4). Four arguments, as
+// `heard_on` has them and its callers keep them.
 #[tactic(auto, unfolding(rules::specs::Kinds::heard_on))]
 pub fn hear(st: Station, routes: Concerned, z: Zone, m: Message) -> Result<Heard, Refusal>
     ensures { answer_of z result ≡ heard_on st routes z m }

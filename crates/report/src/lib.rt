@@ -16,7 +16,7 @@ mod writing;
 pub const ANSWER: usize = 5;
 
 // Stores answer n (REPLAY-1). A code and no refusal, here and below: these write and read the bytes of REPLAY-1, which
-// are lent by C, whatever stands there.
+// are lent by C, whatever stands there, and a count of answers: the buffer may be longer.
 #[tactic(auto, unfolding(crate::specs::Answers::with_answer))]
 pub fn put_answer(s: &mut [u8], n: u32, code: u8, minutes: u32)
     ensures { s.new ≡ with_answer s.old n code minutes }

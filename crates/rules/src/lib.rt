@@ -42,8 +42,8 @@ pub struct Concerned {
     pub its: Route,
 }
 
-// Their numbers; 255 for one that is not there, and no Option: the law `concerned-by-records` says of any number, 255
-// too, that the record at its index gives the route.
+// Their numbers, which the rules keep in a record of their own; 255 for one that is not there, and no Option: the law
+// `concerned-by-records` says of any number, 255 too, that the record at its index gives the route.
 #[derive(Clone, Copy)]
 pub struct RouteNumbers {
     pub asked: u8,

@@ -81,7 +81,8 @@ fn member_kept(r: Route, n: usize, t: Turnout, group: u64, pair: u64) -> bool
         & is_whole(pair & named, r.reverse)
 }
 
-// The index of the first bad route; none if all are good (SHEET-11, FORM-7).
+// The index of the first bad route; none if all are good (SHEET-11, FORM-7). What is tied to each turnout is worked out
+// once for all routes, in fixed memory beside the records.
 fn first_bad_route(st: Station) -> Option<u8>
     ensures { result ≡ first_bad_route st }
 {

@@ -54,9 +54,9 @@ fn put_route(s: &mut [u8], at: u16, r: Route)
     bigendian::put(s, at + 25, r.reverse);
 }
 
-// Stores the first p turnout records after the header. One loop for both kinds of record would ask for a trait with the
-// width of a record and a law on it: longer than the two. A count and 64 records: `turnout_records` speaks of a count
-// that may be over its limit (VALUE-1).
+// Stores the first p turnout records after the header. One loop for both kinds of record would lend the buffer to a
+// closure, which then is no `Fn`, or ask for a trait with the width of a record and a law on it: longer than the two. A
+// count and 64 records: `turnout_records` speaks of a count that may be over its limit (VALUE-1).
 fn put_turnouts(s: &mut [u8], p: u8, ts: [Turnout; 64])
     ensures { s.new ≡ sets s.old 8 (turnout_records p ts) }
 {

@@ -1,5 +1,6 @@
 // The regime of a movement, REGIME-1 to REGIME-3 (docs/RULES.md): which turnouts of its route are under agreed work,
-// which of them lack something, and which order that allows.
+// which of them lack something, and which order that allows. Route, work and movement stay three arguments: the rules
+// speak of them so, and of a route alone.
 ghost use Rattle.std.specs.Prelude.{◌≡◌};
 ghost use Rattle.zone.specs.Movement.{worked_turnouts, lacking_on, regime_on, order_refused};
 

@@ -8,6 +8,7 @@ ghost use Rattle.packed.specs.Packed.{answer_packed, movement_packed, work_packe
 
 use desk::MovementState;
 use refusals::Refusal;
+use zone::Regime;
 
 // What stands for the lowest turnout where none lacks a clearance (ASK-1).
 const NO_TURNOUT: u32 = 255;
@@ -19,6 +20,18 @@ pub fn answer_packed(code: u8, minutes: u32) -> u64
     u64::from(code) + 256 * u64::from(minutes)
 }
 
+// The numbers of an answer to the movement question, a byte each: the code, the regime, the lowest turnout lacking a
+// clearance, how many lack one. Of every code and every turnout, as `movement_packed` says.
+pub fn movement_numbers_packed(code: u8, regime: Regime, lowest: u32, count: u32) -> u64
+    ensures { result
+        ≡ movement_packed (record { code = code; regime = regime; lowest = lowest; count = count }) }
+{
+    u64::from(code)
+        + 256 * u64::from(u8::from(regime))
+        + 65536 * u64::from(lowest)
+        + 16777216 * u64::from(count)
+}
+
 // The movement question's answer: the code, the regime, the lowest turnout lacking a clearance, how many lack one, a
 // byte each.
 pub fn movement_packed(answer: Result<MovementState, Refusal>) -> u64
@@ -26,12 +39,19 @@ pub fn movement_packed(answer: Result<MovementState, Refusal>) -> u64
 {
     match answer {
         Ok(state) => {
-            256 * u64::from(u8::from(state.regime))
-                + 65536 * u64::from(state.lowest.unwrap_or(NO_TURNOUT))
-                + 16777216 * u64::from(state.count)
+            let lowest = state.lowest.unwrap_or(NO_TURNOUT);
+            movement_numbers_packed(0, state.regime, lowest, state.count)
         }
-        Err(refusal) => u64::from(u8::from(refusal)) + 65536 * u64::from(NO_TURNOUT),
+        Err(refusal) => movement_numbers_packed(u8::from(refusal), Regime::Held, NO_TURNOUT, 0),
     }
+}
+
+// The numbers of an answer to the work question: the code, and 256 if the turnout is open to work. Of every code, as
+// `work_packed` says.
+pub fn work_numbers_packed(code: u8, yes: bool) -> u32
+    ensures { result ≡ work_packed (record { code = code; yes = yes }) }
+{
+    u32::from(code) + 256 * u32::from(yes)
 }
 
 // The work question's answer: the code, and 256 if the turnout is open to work.
@@ -39,7 +59,7 @@ pub fn work_packed(answer: Result<bool, Refusal>) -> u32
     ensures { result ≡ work_packed (work_answer_of answer) }
 {
     match answer {
-        Ok(open) => 256 * u32::from(open),
-        Err(refusal) => u32::from(u8::from(refusal)),
+        Ok(open) => work_numbers_packed(0, open),
+        Err(refusal) => work_numbers_packed(u8::from(refusal), false),
     }
 }

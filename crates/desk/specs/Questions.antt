@@ -1,5 +1,5 @@
 -- The two questions, ASK-1 to ASK-4 (docs/RULES.md): "Two questions change nothing."
-use Rattle.std.specs.Prelude.{Bool, false, cond, not, ◌&&◌, ℕ, ltb, Result, Ok, Err, unwrap_or}
+use Rattle.std.specs.Prelude.{◌≢◌, Bool, false, cond, not, ◌&&◌, ℕ, ltb, Result, Ok, Err, Some, unwrap_or}
 use Rattle.refusals.specs.declared.Refusal.{Refusal}
 use Rattle.refusals.specs.Numbers.{number_of}
 use Rattle.sets.specs.Sets.{has, is_empty, count, lowest}
@@ -38,6 +38,10 @@ abbrev pub movement_answer_of : Result MovementState Refusal → MovementAnswer
 movement_answer_of (Ok s) =
     record { code = 0; regime = s.regime; lowest = unwrap_or s.lowest 255; count = s.count }
 movement_answer_of (Err e) = movement_refused (number_of e)
+
+-- the lowest turnout, where there is one, is a turnout: 255 stands for none alone
+abbrev pub NamesATurnout : MovementState → Type 0
+NamesATurnout s = s.lowest ≢ Some 255
 
 -- the answer that the result of the work question stands for
 abbrev pub work_answer_of : Result Bool Refusal → WorkAnswer

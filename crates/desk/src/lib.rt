@@ -4,7 +4,8 @@
 // alone (APART-1, APART-2).
 #![tactic(auto)]
 
-ghost use Rattle.std.specs.Prelude.{◌≡◌, ◌<◌, unwrap_or};
+ghost use Rattle.std.specs.Prelude.{◌≡◌, ◌≢◌, ◌<◌, unwrap_or, Some, IfOk};
+ghost use Rattle.refusals.specs.Numbers.{index_in};
 ghost use Rattle.zone.specs.Zone.{answer_of};
 ghost use Rattle.desk.specs.Desk.{
   fresh_desk,
@@ -21,6 +22,7 @@ ghost use Rattle.desk.specs.Questions.{
   movement_in,
   movement_answered,
   movement_answer_of,
+  NamesATurnout,
   work_answered,
   work_answer_of,
 };
@@ -141,7 +143,8 @@ pub fn apply_record(st: Station, d: Desk, s: &[u8]) -> Result<After, Refusal>
 
 // The lowest turnout of a set; none if it is empty (ASK-1).
 fn lowest_of(s: u64) -> Option<u32>
-    ensures { unwrap_or result 255 ≡ lowest_of s }
+    ensures number { unwrap_or result 255 ≡ lowest_of s }
+    ensures turnout { result ≢ Some 255 }
 {
     if sets::is_empty(s) {
         return None;
@@ -151,7 +154,9 @@ fn lowest_of(s: u64) -> Option<u32>
 
 // The movement question in its zone (ASK-1, ASK-2).
 fn movement_in(st: Station, z: Zone, train: u32) -> Result<MovementState, Refusal>
-    ensures { movement_answer_of result ≡ movement_in st z train }
+    ensures answer { movement_answer_of result ≡ movement_in st z train }
+    ensures index { index_in result ≡ 0 }
+    ensures lowest { IfOk result NamesATurnout }
 {
     let w = zone::work_of(z);
     let v = zone::trains::movement_under(z, train);
@@ -168,7 +173,9 @@ fn movement_in(st: Station, z: Zone, train: u32) -> Result<MovementState, Refusa
 // The movement question: may the train go, and under which signals (ASK-1, ASK-2).
 #[tactic(auto, unfolding(crate::specs::Questions::movement_answered))]
 pub fn query_movement(st: Station, d: Desk, zone: u8, train: u32) -> Result<MovementState, Refusal>
-    ensures { movement_answer_of result ≡ movement_answered st d zone train }
+    ensures answer { movement_answer_of result ≡ movement_answered st d zone train }
+    ensures index { index_in result ≡ 0 }
+    ensures lowest { IfOk result NamesATurnout }
 {
     let n = zone as usize;
     refuse_if(station::zone_count(st) <= n, Refusal::NoSuchZone)?;
@@ -178,10 +185,11 @@ pub fn query_movement(st: Station, d: Desk, zone: u8, train: u32) -> Result<Move
 // The work question: is the turnout open to work (ASK-3, ASK-4).
 #[tactic(auto, unfolding(crate::specs::Questions::work_answered))]
 pub fn query_work(st: Station, d: Desk, turnout: u8) -> Result<bool, Refusal>
-    ensures { work_answer_of result ≡ work_answered st d turnout }
+    ensures answer { work_answer_of result ≡ work_answered st d turnout }
+    ensures index { index_in result ≡ 0 }
 {
     let n = turnout as usize;
-    refuse_if(station::turnout_count(st) <= n, Refusal::NoSuchTurnout)?;
+    refuse_if(station::turnout_count(st) <= n, Refusal::BadField)?;
     let zone = station::zone_of(st, n) as usize;
     if station::zone_count(st) <= zone {
         return Ok(false);

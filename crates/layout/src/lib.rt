@@ -18,7 +18,7 @@ ghost use Rattle.layout.specs.Layout.{
   route_in,
   station_in,
 };
-ghost use Rattle.refusals.specs.Numbers.{code_of};
+ghost use Rattle.refusals.specs.Numbers.{code_of, code_or};
 ghost use Rattle.sets.specs.Table.{places};
 
 use refusals::{Refusal, refuse_if};
@@ -71,7 +71,8 @@ pub fn sheet_length(p: u8, r: u8) -> usize
 
 // The checks before that of the length: length under 8, mark, version, counts (SHEET-11).
 pub fn before_length(s: &[u8]) -> Result<(), Refusal>
-    ensures { code_of result ≡ before_length s.now 0 }
+    ensures number { code_of result ≡ before_length s.now 0 }
+    ensures later { (n : ℕ) → code_or result n ≡ before_length s.now n }
 {
     let counts = counts_kept(
         bigendian::get::<u8>(s, 5),

@@ -18,7 +18,6 @@ number_of the.NotARecord = 10
 number_of the.BadKind = 11
 number_of the.NoSuchZone = 12
 number_of the.BadField = 13
-number_of the.NoSuchTurnout = 13
 number_of the.TooEarly = 14
 number_of the.NotUnderThisId = 15
 number_of the.AlreadyThere = 16
@@ -42,10 +41,20 @@ index_of (the.BadTurnout n) = n
 index_of (the.BadRoute n) = n
 index_of e = 0
 
+-- the index that the refusal of an answer names; 0 where it is accepted, or names none
+abbrev pub index_in : {A : Type 0} → Result A Refusal → ℕ
+index_in (Ok a) = 0
+index_in (Err e) = index_of e
+
 -- the code of an answer: 0, or the number of its refusal
 abbrev pub code_of : {A : Type 0} → Result A Refusal → ℕ
 code_of (Ok a) = 0
 code_of (Err e) = number_of e
+
+-- the number of an answer's refusal, or the one that is given where it is accepted
+abbrev pub code_or : {A : Type 0} → Result A Refusal → ℕ → ℕ
+code_or (Ok a) later = later
+code_or (Err e) later = number_of e
 
 -- the answer of one check: refused where its test holds
 abbrev pub refused_if : Bool → Refusal → Result Unit Refusal

@@ -22,8 +22,9 @@ pub enum Refusal {
     NotARecord,
     BadKind,
     NoSuchZone,
+    // A field that breaks its rule; of the work question a turnout that the station has not (ASK-4): one reason, since
+    // the rules give both one number, so that a refusal's number, with its index, says which it is.
     BadField,
-    NoSuchTurnout,
     TooEarly,
     NotUnderThisId,
     AlreadyThere,
@@ -61,7 +62,6 @@ impl From<Refusal> for u8 {
             Refusal::BadKind => 11,
             Refusal::NoSuchZone => 12,
             Refusal::BadField => 13,
-            Refusal::NoSuchTurnout => 13,
             Refusal::TooEarly => 14,
             Refusal::NotUnderThisId => 15,
             Refusal::AlreadyThere => 16,

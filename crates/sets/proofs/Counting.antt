@@ -2,12 +2,12 @@
 -- give.
 use mathlib.Core.Bool.{Bool, true, false, cond}
 use mathlib.Core.Path.{◌≡◌, sym, ap, ap₂, ◌∙◌}
-use Prim.Native.Nat.{ℕ, zero, suc, ◌+◌, ◌/◌, ◌^◌, ◌<◌}
+use Prim.Native.Nat.{ℕ, zero, suc, ◌+◌, ◌/◌, ◌^◌, ◌≤◌, ◌<◌}
 use native.Mathlib.Nat.{add-zero, zero-add, div-one}
 use native.Mathlib.Omega.{arith}
 use lib.Pow.{shr-shr}
 use lib.Arith.{lt-one}
-use lib.Count.{ones, ones_step, count_trailing_zeros, under}
+use lib.Count.{ones, ones_step, count_trailing_zeros, trailing_le, under}
 use Rattle.sets.specs.Range.{count_from, first_from}
 use Rattle.sets.specs.Sets.{has, count, lowest}
 use Rattle.sets.proofs.Membership.{half_lt, digit-has}
@@ -46,3 +46,7 @@ pub lowest-zeros : (s : ℕ) → lowest s ≡ count_trailing_zeros 64 s
 unfolding lowest
 lowest-zeros s =
     first-from s 64 0 ∙ zero-add (count_trailing_zeros 64 (s / 2 ^ 0)) ∙ ap (count_trailing_zeros 64) (div-one s)
+
+-- searching ends at 64
+pub lowest-at-most : (s : ℕ) → lowest s ≤ 64
+lowest-at-most s = rw (lowest-zeros s) (trailing_le 64 s)

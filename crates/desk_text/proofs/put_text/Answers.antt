@@ -15,4 +15,4 @@ returns c =
       c.text.ensures,
       c.count.ensures,
       c.code.ensures,
-    ) (ap text-of c.replay-replayed.ensures)
+    ) (ap text-of c.replay-replayed.ensures.answer)

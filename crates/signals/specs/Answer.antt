@@ -2,6 +2,7 @@
 -- 0 or 33, and the verdict, 0 when refused.
 use Rattle.std.specs.Prelude.{◌≡◌, ◌&&◌, cond, false, leb, ℕ, Result, Ok, Err, MatchResult}
 use Rattle.refusals.specs.declared.Refusal.{Refusal}
+use Rattle.refusals.specs.declared.Refusal.TheVariants.{OutOfRange}
 use Rattle.refusals.specs.Numbers as numbers
 use Rattle.signals.specs.declared.Verdict.{Verdict}
 use Rattle.signals.specs.declared.Verdict.TheVariants.{AtDanger, Dark, DarkBlockOut}
@@ -27,9 +28,9 @@ abbrev pub answer_of : Result Verdict Refusal → Answer
 answer_of (Ok v) = record { code = 0; verdict = number_of v }
 answer_of (Err e) = record { code = numbers.number_of e; verdict = 0 }
 
--- the result is the verdict with this number, or a refusal where none of SIGNAL-3 has it
+-- the result is the verdict with this number, or 33 where none of SIGNAL-3 has it
 abbrev pub Decodes : ℕ → Result Verdict Refusal → Type 0
-Decodes n r = MatchResult r (λ v. number_of v ≡ n) (λ e. (leb 1 n && leb n 6) ≡ false)
+Decodes n r = MatchResult r (λ v. number_of v ≡ n) (λ e. (e ≡ OutOfRange) × ((leb 1 n && leb n 6) ≡ false))
 
 -- SIGNAL-2, SIGNAL-3: the answer for a line, a signal and flags: the rule's verdict, or 33 with
 -- verdict 0

@@ -21,8 +21,8 @@ pub fn answer_packed(code: u8, minutes: u32) -> u64
 }
 
 // The numbers of an answer to the movement question, a byte each: the code, the regime, the lowest turnout lacking a
-// clearance, how many lack one. Of every code and every turnout, as `movement_packed` says.
-pub fn movement_numbers_packed(code: u8, regime: Regime, lowest: u32, count: u32) -> u64
+// clearance, how many lack one. Of every code and every turnout, as its rule says.
+pub fn movement_packed(code: u8, regime: Regime, lowest: u32, count: u32) -> u64
     ensures { result
         ≡ movement_packed (record { code = code; regime = regime; lowest = lowest; count = count }) }
 {
@@ -32,34 +32,33 @@ pub fn movement_numbers_packed(code: u8, regime: Regime, lowest: u32, count: u32
         + 16777216 * u64::from(count)
 }
 
-// The movement question's answer: the code, the regime, the lowest turnout lacking a clearance, how many lack one, a
-// byte each.
-pub fn movement_packed(answer: Result<MovementState, Refusal>) -> u64
+// The same of what the movement question gives.
+pub fn movement_result_packed(answer: Result<MovementState, Refusal>) -> u64
     ensures { result ≡ movement_packed (movement_answer_of answer) }
 {
     match answer {
         Ok(state) => {
             let lowest = state.lowest.unwrap_or(NO_TURNOUT);
-            movement_numbers_packed(0, state.regime, lowest, state.count)
+            movement_packed(0, state.regime, lowest, state.count)
         }
-        Err(refusal) => movement_numbers_packed(u8::from(refusal), Regime::Held, NO_TURNOUT, 0),
+        Err(refusal) => movement_packed(u8::from(refusal), Regime::Held, NO_TURNOUT, 0),
     }
 }
 
 // The numbers of an answer to the work question: the code, and 256 if the turnout is open to work. Of every code, as
-// `work_packed` says.
-pub fn work_numbers_packed(code: u8, yes: bool) -> u32
+// its rule says.
+pub fn work_packed(code: u8, yes: bool) -> u32
     ensures { result ≡ work_packed (record { code = code; yes = yes }) }
 {
     u32::from(code) + 256 * u32::from(yes)
 }
 
-// The work question's answer: the code, and 256 if the turnout is open to work.
-pub fn work_packed(answer: Result<bool, Refusal>) -> u32
+// The same of what the work question gives.
+pub fn work_result_packed(answer: Result<bool, Refusal>) -> u32
     ensures { result ≡ work_packed (work_answer_of answer) }
 {
     match answer {
-        Ok(open) => work_numbers_packed(0, open),
-        Err(refusal) => work_numbers_packed(u8::from(refusal), false),
+        Ok(open) => work_packed(0, open),
+        Err(refusal) => work_packed(u8::from(refusal), false),
     }
 }

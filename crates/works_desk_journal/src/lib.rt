@@ -114,7 +114,7 @@ pub extern "C" fn desk_replay(sheet: &[u8], journal: &[u8], answers: &mut [u8]) 
 pub extern "C" fn desk_movement(sheet: &[u8], journal: &[u8], zone: u8, train: u32) -> u64
     ensures { result ≡ movement_packed (movement_replayed sheet.now journal.now zone train) }
 {
-    packed::movement_packed(replay::replay_movement(sheet, journal, zone, train))
+    packed::movement_result_packed(replay::replay_movement(sheet, journal, zone, train))
 }
 
 // The work question after a journal: the code, and 256 if the turnout is open to work (REPLAY-3).
@@ -122,7 +122,7 @@ pub extern "C" fn desk_movement(sheet: &[u8], journal: &[u8], zone: u8, train: u
 pub extern "C" fn desk_work(sheet: &[u8], journal: &[u8], turnout: u8) -> u32
     ensures { result ≡ work_packed (work_replayed sheet.now journal.now turnout) }
 {
-    packed::work_packed(replay::replay_work(sheet, journal, turnout))
+    packed::work_result_packed(replay::replay_work(sheet, journal, turnout))
 }
 
 // 0 if the bytes are a journal, else 30 (JOURNAL-2).

@@ -94,7 +94,7 @@ fn movement(sheet: &[u8], desk: &[u8], zone: u8, train: u32) -> Result<MovementS
 pub fn unit_movement(sheet: &[u8], desk: &[u8], zone: u8, train: u32) -> u64
     ensures { result ≡ movement_packed (unit_movement sheet.now desk.now zone train) }
 {
-    packed::movement_packed(movement(sheet, desk, zone, train))
+    packed::movement_result_packed(movement(sheet, desk, zone, train))
 }
 
 #[tactic(auto, using(refusals::proofs::Numbers::not_zero), unfolding(crate::specs::Unit::unit_work))]
@@ -109,5 +109,5 @@ fn work(sheet: &[u8], desk: &[u8], turnout: u8) -> Result<bool, Refusal>
 pub fn unit_work(sheet: &[u8], desk: &[u8], turnout: u8) -> u32
     ensures { result ≡ work_packed (unit_work sheet.now desk.now turnout) }
 {
-    packed::work_packed(work(sheet, desk, turnout))
+    packed::work_result_packed(work(sheet, desk, turnout))
 }

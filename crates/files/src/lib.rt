@@ -4,6 +4,7 @@
 #![tactic(auto)]
 
 ghost use Rattle.std.specs.Prelude.{◌≤◌, length, IfOk};
+ghost use Rattle.files.specs.Counts.{IsPrefixLen};
 
 use std::io::Read;
 use std::rt::Files;
@@ -25,17 +26,16 @@ fn read_all<R: Read>(reader: &mut R, buf: &mut [u8]) -> io::Result<usize>
     Ok(done)
 }
 
-// Reads the file of that name, as far as the buffer holds it: the part of the buffer, from its start on, that is the
-// file's. No clause can name what a buffer holds that the answer borrows, so its length alone is bounded.
-pub fn read_file<'a, R: Files>(rt: &R, name: &[u8], buf: &'a mut [u8]) -> &'a [u8]
-    ensures { length result.now ≤ length buf.old }
+// Reads the file of that name, as far as the buffer holds it, and says how many bytes of the buffer, from its start on,
+// are the file's.
+pub fn read_file<R: Files>(rt: &R, name: &[u8], buf: &mut [u8]) -> usize
+    ensures { IsPrefixLen result buf.new }
 {
     let Ok(path) = str::from_utf8(name) else {
-        return &[];
+        return 0;
     };
     let Ok(mut file) = fs::open(rt, path) else {
-        return &[];
+        return 0;
     };
-    let n = read_all(&mut file, buf).unwrap_or(0);
-    &buf[..n]
+    read_all(&mut file, buf).unwrap_or(0)
 }

@@ -3,7 +3,7 @@
 // all of it, and that printing is safe and ends.
 #![tactic(auto)]
 
-ghost use Rattle.std.specs.Prelude.{◌≤◌};
+ghost use Rattle.std.specs.Prelude.{◌≡◌, ◌≤◌, take};
 ghost use Rattle.printing.specs.Files.{TextOfFiles};
 
 use std::io;
@@ -18,25 +18,26 @@ const JOURNAL: usize = 32784;
 // Room for the text.
 const TEXT: usize = desk_text::ROOM;
 
-// What a buffer of that room holds of a file.
-#[derive(Clone, Copy)]
-struct Held<'a, const ROOM: usize>(&'a [u8]);
-
-fn read<'a, const ROOM: usize>(
-    rt: &impl Files,
-    name: &[u8],
-    buf: &'a mut [u8; ROOM],
-) -> Held<'a, ROOM> {
-    Held(files::read_file(rt, name, buf))
+// The first n bytes; all if there are fewer.
+fn first<'a>(buffer: &'a [u8], n: usize) -> &'a [u8]
+    ensures { result.now ≡ take n buffer.now }
+{
+    buffer.get(..n).unwrap_or(buffer)
 }
 
-// Puts the text of the files, and says how many bytes it takes.
-fn text_of_files(sheet: Held<SHEET>, journal: Held<JOURNAL>, out: &mut [u8; TEXT]) -> usize
-    ensures text { TextOfFiles SHEET sheet.entry.0.now JOURNAL journal.entry.0.now out.old
+// Puts the text of the files that stand in the first n and m bytes of the buffers, and says how many bytes it takes.
+fn text_of_files(
+    sheet: &[u8; SHEET],
+    n: usize,
+    journal: &[u8; JOURNAL],
+    m: usize,
+    out: &mut [u8; TEXT],
+) -> usize
+    ensures text { TextOfFiles SHEET (take n sheet.now) JOURNAL (take m journal.now) out.old
         (record { place = result; bytes = out.new }) }
     ensures within { result ≤ TEXT }
 {
-    desk_text::put_text(sheet.0, journal.0, out)
+    desk_text::put_text(first(sheet, n), first(journal, m), out)
 }
 
 // Prints the text of the files with these names; a file that cannot be read counts as empty (PROGRAM-2).
@@ -48,8 +49,8 @@ pub fn print_files(
     let mut sheet = [0u8; SHEET];
     let mut journal = [0u8; JOURNAL];
     let mut out = [0u8; TEXT];
-    let sheet = read(rt, sheet_name, &mut sheet);
-    let journal = read(rt, journal_name, &mut journal);
-    let text = text_of_files(sheet, journal, &mut out);
+    let n = files::read_file(rt, sheet_name, &mut sheet);
+    let m = files::read_file(rt, journal_name, &mut journal);
+    let text = text_of_files(&sheet, n, &journal, m, &mut out);
     rt.write_all(&out[..text])
 }

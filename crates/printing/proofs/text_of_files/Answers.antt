@@ -9,8 +9,9 @@ returns-clause-text c =
     λ s j sheet-holds journal-holds.
     let a = c.args in
     c.put_text.ensures
-    ∙ whole SHEET a.sheet.0.now JOURNAL a.journal.0.now a.out.now s j
-    (omega arith) (omega arith) (omega arith) sheet-holds journal-holds
+    ∙ whole SHEET c.first.result.now JOURNAL c.first-2.result.now a.out.now s j
+    (omega arith) (omega arith) (omega arith)
+    (c.first.ensures ∙ sheet-holds) (c.first-2.ensures ∙ journal-holds)
 
 pub returns-clause-within : goal.returns-clause-within
 returns-clause-within c =

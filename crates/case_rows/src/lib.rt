@@ -13,9 +13,9 @@ mod row;
 
 // A number, and the place after it.
 #[derive(Clone, Copy)]
-struct Parsed {
-    value: u16,
-    next: usize,
+pub struct Parsed {
+    pub value: u16,
+    pub next: usize,
 }
 
 // The byte at a place.

@@ -10,14 +10,14 @@ use station::Station;
 use std::io;
 
 // Writes how many numbers differ in the stations that two sheets give.
-fn write_differing(rt: &(impl Print + Alloc), s: &[u8], t: &[u8]) -> io::Result<()> {
+fn write_differing(rt: &impl Print, s: &[u8], t: &[u8]) -> io::Result<()> {
     let a = sheet::read_sheet(s).unwrap_or(Station::empty());
     let b = sheet::read_sheet(t).unwrap_or(Station::empty());
-    print!(rt; " {}", differing(rt.alloc(), &a, &b)?)
+    print!(rt; " {}", differing(&a, &b))
 }
 
 // Tries the two sheets of the row, the damage in the first.
-pub fn stations_tried(rt: &(impl Print + Alloc), row: &mut Row<'_>) -> io::Result<()> {
+pub fn stations_tried(rt: &impl Print, row: &mut Row<'_>) -> io::Result<()> {
     let mut one = Sheet::of(Base::try_from(row.number()));
     let other = Sheet::of(Base::try_from(row.number()));
     row.put_pairs(&mut one.buffer);
@@ -30,7 +30,7 @@ pub fn stations_tried(rt: &(impl Print + Alloc), row: &mut Row<'_>) -> io::Resul
 }
 
 // Copies a sheet into a buffer, and writes what comes of it.
-fn copied(rt: &(impl Print + Alloc), sheet: &[u8], s: &mut [u8]) -> io::Result<()> {
+fn copied(rt: &impl Print, sheet: &[u8], s: &mut [u8]) -> io::Result<()> {
     let answer = sheet_writer::copy_sheet(sheet, s);
     write_finding(rt, answer)?;
     write_left(rt, s, sheet)?;
@@ -41,7 +41,7 @@ fn copied(rt: &(impl Print + Alloc), sheet: &[u8], s: &mut [u8]) -> io::Result<(
 }
 
 // Tries the copy of the row, into a buffer of at most 2,400 bytes.
-pub fn copy_tried(rt: &(impl Print + Alloc), row: &mut Row<'_>) -> io::Result<()> {
+pub fn copy_tried(rt: &impl Print, row: &mut Row<'_>) -> io::Result<()> {
     let mut sheet = Sheet::of(Base::try_from(row.number()));
     let length = usize::from(row.number());
     let room = usize::from(row.number());

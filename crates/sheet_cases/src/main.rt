@@ -81,10 +81,10 @@ fn sheet_tried(rt: &impl Print, number: u16, row: &mut Row<'_>) -> io::Result<()
 }
 
 // Tries station K's sheet.
-fn station_k_tried(rt: &(impl Print + Alloc), row: &mut Row<'_>) -> io::Result<()> {
+fn station_k_tried(rt: &impl Print, row: &mut Row<'_>) -> io::Result<()> {
     let answer = read(Base::Version1(Shape::StationK).sheet(), row);
     let st = answer.unwrap_or(Station::empty());
-    print!(rt; " {}", stations::sum(rt.alloc(), &st)?)
+    print!(rt; " {}", stations::sum(&st))
 }
 
 // Tries the question of the row.
@@ -96,7 +96,7 @@ fn question_tried(rt: &impl Print, question: u16, row: &mut Row<'_>) -> io::Resu
 }
 
 // Tries what stands after the name. The numbers are looked at here alone: an enum would be a second table of them.
-fn rest_tried(rt: &(impl Print + Alloc), row: &mut Row<'_>) -> io::Result<()> {
+fn rest_tried(rt: &impl Print, row: &mut Row<'_>) -> io::Result<()> {
     let number = row.number();
     match number {
         5 => station_k_tried(rt, row),
@@ -114,7 +114,7 @@ fn rest_tried(rt: &(impl Print + Alloc), row: &mut Row<'_>) -> io::Result<()> {
 }
 
 // Writes the name of the row, and tries what stands after it.
-fn row_tried(rt: &(impl Print + Alloc), row: &mut Row<'_>) -> io::Result<()> {
+fn row_tried(rt: &impl Print, row: &mut Row<'_>) -> io::Result<()> {
     rt.write_all(row.name())?;
     rest_tried(rt, row)?;
     row.skip();
@@ -123,7 +123,7 @@ fn row_tried(rt: &(impl Print + Alloc), row: &mut Row<'_>) -> io::Result<()> {
 
 // Tries every row that is no remark; remarks and rows are at most 1,600. Each program of rows has this loop, since a
 // library's call would owe a clause on what is printed.
-fn all_tried(rt: &(impl Print + Alloc), row: &mut Row<'_>) -> io::Result<()> {
+fn all_tried(rt: &impl Print, row: &mut Row<'_>) -> io::Result<()> {
     for _ in 0..1600u16 {
         match row.byte() {
             b'\n' => return Ok(()),
@@ -134,12 +134,26 @@ fn all_tried(rt: &(impl Print + Alloc), row: &mut Row<'_>) -> io::Result<()> {
     Ok(())
 }
 
+// Reads the input until it ends, a read fails or the buffer is full: the part of the buffer that is read. A `while`: a
+// read takes as many bytes as it likes. Each program of rows reads so itself: of a library's call no clause could say
+// what it reads.
+fn read_input<'a, R: Read>(reader: &mut R, buf: &'a mut [u8]) -> &'a [u8] {
+    let mut done: usize = 0;
+    while done < buf.len() {
+        let Ok(n) = reader.read(&mut buf[done..]) else {
+            break;
+        };
+        if n == 0 {
+            break;
+        }
+        done += n;
+    }
+    &buf[..done]
+}
+
 fn main(rt: HostRuntime) -> io::Result<()> {
-    let mut input = Vec::new(rt.alloc());
-    rt.reader().take(65536).read_to_end(&mut input).unwrap_or(0);
-    let mut row = Row {
-        text: input.as_slice(),
-        at: 0,
-    };
+    let mut input = [0u8; 65536];
+    let input = read_input(&mut rt.reader(), &mut input);
+    let mut row = Row { text: input, at: 0 };
     all_tried(&rt, &mut row)
 }

@@ -37,14 +37,14 @@ pub fn plain(row: &mut Row<'_>) -> Sheet {
 }
 
 // Writes what a reading gave: the code, the index, and the sum of the station, the empty one where it refuses.
-fn write_all_of(rt: &(impl Print + Alloc), answer: Result<Station, Refusal>) -> io::Result<()> {
+fn write_all_of(rt: &impl Print, answer: Result<Station, Refusal>) -> io::Result<()> {
     write_finding(rt, answer)?;
     let st = answer.unwrap_or(Station::empty());
-    print!(rt; " {}", stations::sum(rt.alloc(), &st)?)
+    print!(rt; " {}", stations::sum(&st))
 }
 
 // Tries the plain sheet of the row: writes what the panel's reading of its bytes gives, then the desk's.
-pub fn tried(rt: &(impl Print + Alloc), row: &mut Row<'_>) -> io::Result<()> {
+pub fn tried(rt: &impl Print, row: &mut Row<'_>) -> io::Result<()> {
     let mut sheet = plain(row);
     let n = usize::from(row.number());
     row.put_pairs(&mut sheet.buffer);

@@ -1,41 +1,57 @@
 // What stations say: that of station K, and stations that no sheet gave. And all numbers of a station, in a row.
 use super::bases::{Base, Shape};
 use station::{Route, Station, Turnout};
-use std::alloc::{AllocError, Allocator};
 
-// All 515 numbers of a station, in the order of their places (main.rt).
-pub fn numbers<A: Allocator>(alloc: A, st: &Station) -> Result<Vec<u64, A>, AllocError> {
-    let mut numbers = Vec::new(alloc);
-    numbers.extend_from_slice(&[
+// The numbers of a station, 515, in the order of their places (main.rt): the counts, then those of each turnout, then
+// those of each route.
+fn counts(st: &Station) -> [u64; 3] {
+    [
         u64::from(st.turnouts),
         u64::from(st.routes),
         u64::from(st.zones),
-    ])?;
-    for t in &st.turnout {
-        numbers.extend_from_slice(&[u64::from(t.zone), u64::from(t.group), u64::from(t.drive)])?;
-    }
-    for r in &st.route {
-        numbers.extend_from_slice(&[u64::from(r.zone), r.over, r.flank, r.exits, r.reverse])?;
-    }
-    Ok(numbers)
+    ]
+}
+
+fn turnout_numbers(t: &Turnout) -> [u64; 3] {
+    [u64::from(t.zone), u64::from(t.group), u64::from(t.drive)]
+}
+
+fn route_numbers(r: &Route) -> [u64; 5] {
+    [u64::from(r.zone), r.over, r.flank, r.exits, r.reverse]
+}
+
+// A sum with more numbers.
+fn added(sum: u64, numbers: &[u64]) -> u64 {
+    numbers.iter().fold(sum, |sum, n| sum.wrapping_add(*n))
 }
 
 // All numbers of a station, added up.
-pub fn sum<A: Allocator>(alloc: A, st: &Station) -> Result<u64, AllocError> {
-    let numbers = numbers(alloc, st)?;
-    Ok(numbers.iter().fold(0u64, |sum, n| sum.wrapping_add(*n)))
+pub fn sum(st: &Station) -> u64 {
+    let mut sum = added(0, &counts(st));
+    for t in &st.turnout {
+        sum = added(sum, &turnout_numbers(t));
+    }
+    for r in &st.route {
+        sum = added(sum, &route_numbers(r));
+    }
+    sum
+}
+
+// How many of the numbers differ.
+fn unlike(a: &[u64], b: &[u64]) -> usize {
+    a.iter().zip(b).filter(|(n, m)| **n != **m).count()
 }
 
 // How many of the numbers of two stations differ.
-pub fn differing<A: Allocator>(alloc: A, a: &Station, b: &Station) -> Result<usize, AllocError> {
-    let mine = numbers(&alloc, a)?;
-    let others = numbers(&alloc, b)?;
-    Ok(
-        mine.iter()
-            .zip(others.iter())
-            .filter(|(n, m)| **n != **m)
-            .count(),
-    )
+pub fn differing(a: &Station, b: &Station) -> usize {
+    let mut n = unlike(&counts(a), &counts(b));
+    for (t, u) in a.turnout.iter().zip(&b.turnout) {
+        n = n.wrapping_add(unlike(&turnout_numbers(t), &turnout_numbers(u)));
+    }
+    for (r, q) in a.route.iter().zip(&b.route) {
+        n = n.wrapping_add(unlike(&route_numbers(r), &route_numbers(q)));
+    }
+    n
 }
 
 // A station that no sheet gave: all counts are the same, and so are all turnouts and all routes.

@@ -64,32 +64,48 @@ fn all_tried(rt: &impl Print, bench: &mut Bench<'_>, row: &mut Row<'_>) -> io::R
     Ok(())
 }
 
+// Reads the input until it ends, a read fails or the buffer is full: the part of the buffer that is read. A `while`: a
+// read takes as many bytes as it likes. Each program of rows reads so itself: of a library's call no clause could say
+// what it reads.
+fn read_input<'a, R: Read>(reader: &mut R, buf: &'a mut [u8]) -> &'a [u8] {
+    let mut done: usize = 0;
+    while done < buf.len() {
+        let Ok(n) = reader.read(&mut buf[done..]) else {
+            break;
+        };
+        if n == 0 {
+            break;
+        }
+        done += n;
+    }
+    &buf[..done]
+}
+
 fn main(rt: HostRuntime) -> io::Result<()> {
     // A byte more than the sheet of station K.
     let mut first = [0u8; SHEET + 1];
     let mut second = [0u8; 128];
     let mut third = [0u8; 256];
     let mut journal = [0u8; 1024];
-    let mut input = Vec::new(rt.alloc());
+    let mut input = [0u8; 65536];
     files::read_file(&rt, b"sheet", &mut first);
-    rt.reader().take(65536).read_to_end(&mut input).unwrap_or(0);
     let first = Sheet {
         bytes: &first,
         length: SHEET,
     };
-    let second = Sheet::from(files::read_file(&rt, b"second", &mut second));
-    let third = Sheet::from(files::read_file(&rt, b"third", &mut third));
-    let journal = files::read_file(&rt, b"journal", &mut journal);
+    let n = files::read_file(&rt, b"second", &mut second);
+    let second = Sheet::from(&second[..n]);
+    let n = files::read_file(&rt, b"third", &mut third);
+    let third = Sheet::from(&third[..n]);
+    let n = files::read_file(&rt, b"journal", &mut journal);
+    let input = read_input(&mut rt.reader(), &mut input);
     let mut bench = Bench {
         first,
         second,
         third,
-        journal,
+        journal: &journal[..n],
         desk: [7; ROOM],
     };
-    let mut row = Row {
-        text: input.as_slice(),
-        at: 0,
-    };
+    let mut row = Row { text: input, at: 0 };
     all_tried(&rt, &mut bench, &mut row)
 }

@@ -12,15 +12,16 @@ mod journals;
 mod messages;
 mod numbers;
 mod stations;
+mod text;
 
 use cases::{Case, Cases};
-use std::alloc::{AllocError, Global};
 use std::fmt::Write;
-use std::io;
+use std::{fmt, io};
+use text::Text;
 
 // Puts what a case answers; any other kind answers nothing. Of a zone or turnout in x the lowest byte counts. The
 // kinds are looked at here alone: an enum would be a second table of them.
-fn put_answer(alloc: Global, out: &mut String, c: Case<'_>) -> Result<(), AllocError> {
+fn put_answer(out: &mut Text, c: Case<'_>) -> fmt::Result {
     let Case { kind, x, y, a, b } = c;
     let low = (x % 256) as u8;
     match kind {
@@ -29,40 +30,38 @@ fn put_answer(alloc: Global, out: &mut String, c: Case<'_>) -> Result<(), AllocE
         3 => stations::put_movement(out, a, b, low, y),
         4 => stations::put_work(out, a, b, low),
         5 => messages::put_record(out, a),
-        6 => messages::put_written(alloc, out, a, b),
+        6 => messages::put_written(out, a, b),
         7 => journals::put_count(out, a),
         8 => journals::put_part(out, a, x),
-        9 => journals::put_added(alloc, out, a, b),
+        9 => journals::put_added(out, a, b),
         10 => stations::put_verdict(out, x),
-        11 => stations::put_copied(alloc, out, a, b),
+        11 => stations::put_copied(out, a, b),
         12 => stations::put_panel(out, a),
         _ => Ok(()),
     }
 }
 
 // Puts the line of case n.
-fn put_line(alloc: Global, out: &mut String, n: u32, c: Case<'_>) -> Result<(), AllocError> {
+fn put_line(out: &mut Text, n: u32, c: Case<'_>) -> fmt::Result {
     write!(out, "{n}")?;
-    put_answer(alloc, out, c)?;
-    out.push_str("\n")
+    put_answer(out, c)?;
+    out.write_str("\n")
 }
 
 // Puts the lines of the cases, at most 4,096.
-fn put_lines(alloc: Global, out: &mut String, cases: Cases<'_>) -> Result<(), AllocError> {
+fn put_lines(out: &mut Text, cases: Cases<'_>) -> fmt::Result {
     for (n, c) in (1..=4096u32).zip(cases) {
-        put_line(alloc, out, n, c)?;
+        put_line(out, n, c)?;
     }
     Ok(())
 }
 
-// At most so many bytes of the lines are printed.
-const TEXT: usize = 65536;
-
 fn main(rt: HostRuntime) -> io::Result<()> {
     let mut buffer = [0u8; 294912];
-    let cases = Cases(files::read_file(&rt, b"cases", &mut buffer));
-    let mut out = String::new(rt.alloc());
-    put_lines(rt.alloc(), &mut out, cases)?;
-    let text = out.as_bytes();
-    rt.write_all(&text[..text.len().min(TEXT)])
+    let n = files::read_file(&rt, b"cases", &mut buffer);
+    let cases = Cases(&buffer[..n]);
+    let mut out = Text::new();
+    // no write to a text fails
+    let _ = put_lines(&mut out, cases);
+    rt.write_all(out.bytes())
 }

@@ -1,12 +1,13 @@
 // Cases of records that are read, and of messages that are written.
 use super::numbers::{copied, sum32};
+use super::text::Text;
 use message::Message;
 use refusals::code;
-use std::alloc::{AllocError, Global};
+use std::fmt;
 use std::fmt::Write;
 
 // Puts kind, zone, time, id and the details of a message.
-fn put_fields(out: &mut String, m: Message) -> Result<(), AllocError> {
+fn put_fields(out: &mut Text, m: Message) -> fmt::Result {
     write!(out, " {} {} {} {}", m.kind, m.zone, m.time, m.id)?;
     for detail in [m.d0, m.d1, m.d2, m.d3, m.d4, m.d5] {
         write!(out, " {detail}")?;
@@ -16,7 +17,7 @@ fn put_fields(out: &mut String, m: Message) -> Result<(), AllocError> {
 
 // Kind 5: the code of record a; of an accepted one also its fields, and the sum of the bytes that writing it again
 // gives.
-pub fn put_record(out: &mut String, a: &[u8]) -> Result<(), AllocError> {
+pub fn put_record(out: &mut Text, a: &[u8]) -> fmt::Result {
     let answer = message::read_record(a);
     write!(out, " {}", code(answer))?;
     let Ok(m) = answer else {
@@ -48,8 +49,10 @@ fn unchecked(a: &[u8]) -> Message {
 
 // Kind 6: the code of writing the message of a into buffer b, and the sum of the buffer then. Of a longer b the first
 // 64 bytes are the buffer.
-pub fn put_written(alloc: Global, out: &mut String, a: &[u8], b: &[u8]) -> Result<(), AllocError> {
-    let mut buffer = copied(alloc, b, 64)?;
-    let answer = message::write_record(unchecked(a), buffer.as_mut_slice());
-    write!(out, " {} {}", code(answer), sum32(buffer.as_slice()))
+pub fn put_written(out: &mut Text, a: &[u8], b: &[u8]) -> fmt::Result {
+    let mut buffer = [0u8; 64];
+    let n = copied(b, &mut buffer);
+    let s = &mut buffer[..n];
+    let answer = message::write_record(unchecked(a), s);
+    write!(out, " {} {}", code(answer), sum32(s))
 }

@@ -1,13 +1,13 @@
 // What stands for an answer and for bytes in the output, and the part of a case that is a buffer.
+ghost use Rattle.files.specs.Counts.{IsPrefixLen};
+
+use super::text::Text;
 use refusals::Refusal;
-use std::alloc::{AllocError, Global};
+use std::fmt;
 use std::fmt::Write;
 
 // Puts the code of an answer, and the index that a refusal names.
-pub fn put_finding<T: Copy>(
-    out: &mut String,
-    answer: Result<T, Refusal>,
-) -> Result<(), AllocError> {
+pub fn put_finding<T: Copy>(out: &mut Text, answer: Result<T, Refusal>) -> fmt::Result {
     let index = answer.err().map_or(0, |refusal| refusal.index());
     write!(out, " {} {index}", refusals::code(answer))
 }
@@ -20,7 +20,11 @@ pub fn sum32(s: &[u8]) -> u32 {
     )
 }
 
-// A copy of the first n bytes; of all of them if there are fewer.
-pub fn copied(alloc: Global, s: &[u8], n: usize) -> Result<Vec<u8>, AllocError> {
-    s.get(..n).unwrap_or(s).to_vec(alloc)
+// Copies bytes to the start of a buffer, as many as it holds; says how many.
+pub fn copied(s: &[u8], buffer: &mut [u8]) -> usize
+    ensures { IsPrefixLen result buffer.new }
+{
+    let n = s.len().min(buffer.len());
+    buffer[..n].copy_from_slice(&s[..n]);
+    n
 }

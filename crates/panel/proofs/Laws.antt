@@ -92,7 +92,7 @@ module _ (s : List ℕ) where
   never-by-the-desk e = omega (arith, code-most s, e)
 
   -- the number decides the answer: the refusal by 9, or the desk's
-  answer-nine : panel_number s ≡ 9 → read_panel_sheet s ≡ refused_sheet 9 0
+  pub answer-nine : panel_number s ≡ 9 → read_panel_sheet s ≡ refused_sheet 9 0
   unfolding read_panel_sheet
   answer-nine e = rw e
 

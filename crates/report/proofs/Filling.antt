@@ -92,12 +92,12 @@ digits-enough (suc k) n small =
     ap (λ (l : List ℕ). cond (ltb n 10) ((48 + n) ∷ []) (l ++ ((48 + n % 10) ∷ [])))
     (digits-enough k (n / 10) next)
 
-decimal-small : (n : ℕ) → n < 10 → decimal n ≡ (48 + n) ∷ []
+pub decimal-small : (n : ℕ) → n < 10 → decimal n ≡ (48 + n) ∷ []
 unfolding decimal digits
 decimal-small n small = rw (lt-ltb n 10 small)
 
 -- the digits of a number of 32 bits are those of its tenth and its last
-decimal-next :
+pub decimal-next :
     (n : ℕ) → 10 ≤ n → n < 2 ^ 32 → decimal n ≡ decimal (n / 10) ++ ((48 + n % 10) ∷ [])
 unfolding decimal digits
 decimal-next n large fits =
